@@ -1,0 +1,2 @@
+-- Lemmas on the rules of records.
+pub mod Kept

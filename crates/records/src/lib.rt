@@ -1,0 +1,4 @@
+// What the lines of a text say, and the rules that they keep.
+pub mod fault;
+pub mod record;
+pub mod rules;
