@@ -1,2 +1,3 @@
 -- Lemmas on the rules of records.
 pub mod Kept
+pub mod Numbers

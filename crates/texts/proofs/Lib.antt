@@ -1,0 +1,5 @@
+-- Lemmas on texts.
+pub mod Numbers
+pub mod Runs
+pub mod Fields
+pub mod Lines

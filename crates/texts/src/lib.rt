@@ -1,0 +1,3 @@
+// Reads a text of records, line by line.
+mod line;
+mod number;
