@@ -3,3 +3,5 @@ pub mod Numbers
 pub mod Runs
 pub mod Fields
 pub mod Lines
+pub mod Broken
+pub mod Turns

@@ -1,3 +1,5 @@
 -- Definitions that the contracts cite.
 pub mod Fields
 pub mod Lines
+pub mod Contents
+pub mod Readings
