@@ -5,3 +5,7 @@ pub mod Fields
 pub mod Lines
 pub mod Broken
 pub mod Turns
+pub mod Apart
+pub mod Outcomes
+pub mod Places
+pub mod OneWay

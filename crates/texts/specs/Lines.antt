@@ -1,6 +1,6 @@
 -- The lines of records. Assumes nothing.
 use mathlib.Core.Path.{_≡_}
-use mathlib.Core.Bool.{Bool, true, _&&_}
+use mathlib.Core.Bool.{Bool, true, false, _&&_}
 use mathlib.Core.List.{List, [], _∷_, _++_}
 use Prim.Native.Nat.{ℕ, _≤_}
 use lib.Chars.{codes}
@@ -78,3 +78,14 @@ pub record KindAt (text : List ℕ) (at : ℕ) (kind : Kind) (end : ℕ) : Type 
 
 abbrev pub NoKind : List ℕ → ℕ → Type 0
 NoKind text at = (kind : Kind) (rest : List ℕ) → drop at text ≡ letter-of kind ∷ rest → ⊥
+
+-- the line is that of node n
+abbrev pub is-node : ℕ → Line → Bool
+is-node n (Policy r) = false
+is-node n (Bad r) = false
+is-node n (Edge r) = false
+is-node n (Quota k) = false
+is-node n (Mark r) = false
+is-node n (Node r) = eqb (r .node) n
+is-node n (Def r) = false
+is-node n (Tariff r) = false

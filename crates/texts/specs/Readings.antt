@@ -85,3 +85,7 @@ pub data Outcome (text : List ℕ) (before after : Contents) : Result Counts Fau
   broken-line : {fault : Fault} → length text ≤ 65536 → Refused text before after (told fault) → Outcome text before after (Err fault)
   undefined-call : {fault : Fault} {counts : Counts} {node place : ℕ} → length text ≤ 65536 → ReadTo text before after (length text) counts → FirstUncalled (front counts after .nodes) (counts .defs) node → NodeAt (sizes before) text node place → told fault ≡ refusal 4 Table place → Outcome text before after (Err fault)
   accepted : {counts : Counts} → length text ≤ 65536 → ReadTo text before after (length text) counts → AllCalled (front counts after .nodes) (counts .defs) (counts .nodes) → Outcome text before after (Ok counts)
+
+-- the rules allow no other answer, and nothing else in the lists
+abbrev pub OnlyOutcome : List ℕ → Contents → Contents → Result Counts Fault → Type 0
+OnlyOutcome text before after r = (other : Contents) (answer : Result Counts Fault) → Outcome text before other answer → (answer ≡ r) × (other ≡ after)

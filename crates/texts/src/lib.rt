@@ -1,4 +1,5 @@
 // Reads a text of records, line by line.
+mod calls;
 mod line;
 pub mod lists;
 mod number;
