@@ -26,7 +26,7 @@ use Rattle.texts.proofs.Outcomes.{Ends, Onward, linear, one-outcome}
 use Rattle.texts.proofs.Places.{goes-on, node-counts, unlike}
 use Rattle.texts.specs.Contents.{Contents, Room, broken, front, sizes}
 use Rattle.texts.specs.Lines.{LineAt}
-use Rattle.texts.specs.Readings.{NodeAt, OnlyOutcome, Outcome, Overwritten, Passed, ReadTo, Refused}
+use Rattle.texts.specs.Readings.{NodeAt, OnlyOutcome, Outcome, Overwritten, Passed, ReadTo, Refused, UndefinedCall}
 use Rattle.texts.specs.declared.lists.Counts.{Counts}
 
 -- a list with the same front and the same rest
@@ -149,3 +149,7 @@ module _ {text : List ℕ} {before : Contents} where
 
   pub only : {after : Contents} {r : Result Counts Fault} → Outcome text before after r → OnlyOutcome text before after r
   only o other answer p = one-way p o
+
+-- the last test of a reading
+pub uncalled : {text : List ℕ} {before after : Contents} {counts : Counts} {fault : Fault} → length text ≤ 65536 → ReadTo text before after (length text) counts → UndefinedCall text (front counts after .nodes) (counts .defs) (told fault) → Outcome text before after (Err fault)
+uncalled short read call = Outcome.undefined-call short read (call .first) (call .stands _ _ (read .passed) (call .first .within)) (call .is)

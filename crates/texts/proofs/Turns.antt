@@ -107,3 +107,6 @@ module _ {text : List ℕ} {before middle : Contents} {at : ℕ} {counts : Count
 -- the same slices all the way
 pub same-on : {xs ys zs : Lists} → SameLists xs ys → SameLists ys zs → SameLists xs zs
 same-on e f = record { policies = e .policies ∙ f .policies; bads = e .bads ∙ f .bads; edges = e .edges ∙ f .edges; marks = e .marks ∙ f .marks; nodes = e .nodes ∙ f .nodes; defs = e .defs ∙ f .defs; tariffs = e .tariffs ∙ f .tariffs }
+
+pub same-none : (xs : Lists) → SameLists xs xs
+same-none xs = record { policies = refl; bads = refl; edges = refl; marks = refl; nodes = refl; defs = refl; tariffs = refl }

@@ -79,6 +79,14 @@ pub record NodeAt (room : Room) (text : List ℕ) (n place : ℕ) : Type 0 where
   pub end : ℕ
   pub found : LineAt text place (Node node) end
 
+-- some node calls a definition that is not there; the lowest has its line at the place told, if the text is read to its end
+pub record UndefinedCall (text : List ℕ) (nodes : List NodeRecord) (defs : ℕ) (x : Refusal) : Type 0 where
+  pub node : ℕ
+  pub first : FirstUncalled nodes defs node
+  pub place : ℕ
+  pub is : x ≡ refusal 4 Table place
+  pub stands : (room : Room) (rs : Records) → Passed room text (length text) rs → node < length (rs .nodes) → NodeAt room text node place
+
 -- what a reading answers, and what the lists then hold
 pub data Outcome (text : List ℕ) (before after : Contents) : Result Counts Fault → Type 0 where
   too-long : {fault : Fault} → 65536 < length text → after ≡ before → told fault ≡ refusal 3 Table 65536 → Outcome text before after (Err fault)

@@ -1,10 +1,15 @@
 // Reads a text into lists of records.
-ghost use Rattle.texts.specs.Contents.{SameLists, contents};
-ghost use Rattle.texts.specs.Readings.{LinesRead};
+ghost use Rattle.records.specs.Faults.{told};
+ghost use Rattle.records.specs.Rules.{AllCalled};
+ghost use Rattle.std.specs.Results.{Cases};
+ghost use Rattle.texts.specs.Contents.{SameLists, Within, contents, front};
+ghost use Rattle.texts.specs.Readings.{LinesRead, OnlyOutcome, Outcome, UndefinedCall};
+use crate::calls::node_place;
 use crate::line::line_at;
 use crate::lists::{Counts, Lists};
 use crate::store::{check_line, store};
 use records::fault::Fault;
+use records::rules::undefined_call;
 
 // Reads the text's lines in turn, up to its end or to the first line that breaks a rule.
 fn read_lines(text: &[u8], lists: &mut Lists) -> Result<Counts, Fault>
@@ -19,5 +24,31 @@ fn read_lines(text: &[u8], lists: &mut Lists) -> Result<Counts, Fault>
         counts = store(lists, counts, line);
         at = end;
     }
+    Ok(counts)
+}
+
+// Refuses a text whose nodes call a definition that is not there, at the line of the lowest such node.
+fn check_calls(text: &[u8], lists: &Lists, counts: Counts) -> Result<(), Fault>
+    requires { ⌜ Within counts (contents (now lists)) ⌝ }
+    ensures { λ r. ⌜ Cases r (λ _. AllCalled (front counts (contents (now (lists .entry))) .nodes) (counts .defs) (counts .nodes)) (λ fault. UndefinedCall (now (text .entry)) (front counts (contents (now (lists .entry))) .nodes) (counts .defs) (told fault)) ⌝ }
+{
+    let nodes = counts.nodes;
+    match undefined_call(&lists.nodes[0..nodes], counts.defs) {
+        Some(n) => Err(Fault::Missing(node_place(text, n as u64))),
+        None => Ok(()),
+    }
+}
+
+// Reads a whole text: its length, its lines, and then the definitions that its nodes call.
+pub fn read(text: &[u8], lists: &mut Lists) -> Result<Counts, Fault>
+    ensures same { λ _. ⌜ SameLists (now (lists .exit)) (now (lists .entry)) ⌝ }
+    ensures outcome { λ r. ⌜ Outcome (now (text .entry)) (contents (now (lists .entry))) (contents (now (lists .exit))) r ⌝ }
+    ensures only { λ r. ⌜ OnlyOutcome (now (text .entry)) (contents (now (lists .entry))) (contents (now (lists .exit))) r ⌝ }
+{
+    if text.len() > 65536 {
+        return Err(Fault::Limit(65536));
+    }
+    let counts = read_lines(text, lists)?;
+    check_calls(text, lists, counts)?;
     Ok(counts)
 }
