@@ -1,9 +1,12 @@
 -- What each fault says: its number, its layer and its place. Assumes nothing.
+use mathlib.Core.List.{List, _++_}
 use Prim.Native.Nat.{ℕ}
+use lib.Chars.{codes}
 use Rattle.std.specs.declared.option.Option.{Option}
 use Rattle.std.specs.declared.option.Option.the-variants.{Some, None}
 use Rattle.std.specs.declared.result.Result.{Result}
 use Rattle.std.specs.declared.result.Result.the-variants.{Ok, Err}
+use Rattle.records.specs.Written.{written}
 use Rattle.records.specs.declared.fault.Layer.{Layer}
 use Rattle.records.specs.declared.fault.Layer.the-variants.{Line, Table, Station}
 use Rattle.records.specs.declared.fault.Fault.{Fault}
@@ -44,3 +47,12 @@ at-place place (Some number) = Some (refusal number Table place)
 abbrev pub answer : {T : Type 0} → Result T Fault → Option Refusal
 answer (Ok _) = None
 answer (Err fault) = Some (told fault)
+
+abbrev pub layer-word : Layer → List ℕ
+layer-word Line = codes "line"
+layer-word Table = codes "table"
+layer-word Station = codes "station"
+
+-- a refusal as it is printed
+abbrev pub refusal-text : Refusal → List ℕ
+refusal-text x = codes "refused=" ++ (written (x .number) ++ (codes " layer=" ++ (layer-word (x .layer) ++ (codes " place=" ++ written (x .place)))))
