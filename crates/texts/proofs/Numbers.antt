@@ -40,3 +40,7 @@ same-number m n r s sm sn pr ps e =
     let parts = same-run (written m) (written n) r s (written-digits m sm) (written-digits n sn) pr ps e in
     let same : decimal m ≡ decimal n = sym (written-is m (omega arith)) ∙ parts .0 ∙ written-is n (omega arith) in
     (sym (value-decimal own m (omega arith)) ∙ ap (value 10) same ∙ value-decimal own n (omega arith), parts .1)
+
+-- a number as the standard library prints it
+pub shown : (n : ℕ) → n < 2 ^ 64 → decimal n ≡ written n
+shown n wide = sym (written-is n wide)

@@ -3,3 +3,4 @@ pub mod Fields
 pub mod Lines
 pub mod Contents
 pub mod Readings
+pub mod Reports

@@ -4,4 +4,5 @@ mod line;
 pub mod lists;
 mod number;
 pub mod reading;
+pub mod report;
 mod store;
