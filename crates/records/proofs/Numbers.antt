@@ -31,14 +31,14 @@ pub written-by-rule : (n : ℕ) → n < 2 ^ 64 → written n ≡ cond (eqb (n / 
 written-by-rule n wide =
     ⊎-elim
     (λ more.
-        let some : eqb (n / 10) 0 ≡ false = ne-eqb (n / 10) 0 (omega arith) in
-        let less : n / 10 < 2 ^ 64 = omega arith in
-        let front = written-is (n / 10) less in
-        rw some (written-is n wide ∙ decimal-step n more wide ∙ ap (λ l. l ++ ((48 + n % 10) ∷ [])) (sym front)))
+    let some : eqb (n / 10) 0 ≡ false = ne-eqb (n / 10) 0 (omega arith) in
+    let less : n / 10 < 2 ^ 64 = omega arith in
+    let front = written-is (n / 10) less in
+    rw some (written-is n wide ∙ decimal-step n more wide ∙ ap (λ l. l ++ ((48 + n % 10) ∷ [])) (sym front)))
     (λ less.
-        let none : eqb (n / 10) 0 ≡ true = eq-eqb (n / 10) 0 (omega arith) in
-        let last : n ≡ n % 10 = omega arith in
-        rw none (written-is n wide ∙ decimal-digit n less ∙ ap (λ d. (48 + d) ∷ []) last))
+    let none : eqb (n / 10) 0 ≡ true = eq-eqb (n / 10) 0 (omega arith) in
+    let last : n ≡ n % 10 = omega arith in
+    rw none (written-is n wide ∙ decimal-digit n less ∙ ap (λ d. (48 + d) ∷ []) last))
     (ten n)
   where
     ten : (n : ℕ) → (10 ≤ n) ⊎ (n < 10)

@@ -1,7 +1,8 @@
 // Faults as they are printed.
 ghost use Rattle.records.specs.Faults.{layer-word, refusal-text, told};
 ghost use Rattle.std.specs.declared.option.Option.the-variants.{Some};
-use crate::fault::{Fault, Layer};
+use crate::fault::Fault;
+use crate::fault::Layer;
 use std::fmt;
 
 pub impl fmt::Display for Layer as LayerDisplay {

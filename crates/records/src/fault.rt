@@ -72,8 +72,20 @@ impl Fault {
     {
         match self {
             Fault::Form(_) => Layer::Line,
-            Fault::Order(_) | Fault::Limit(_) | Fault::Missing(_) | Fault::NoRoom(_) | Fault::NoMemory => Layer::Table,
-            Fault::NoJob(_) | Fault::StrayPolicy(_) | Fault::ShortList | Fault::Running | Fault::Idle | Fault::Offends(_) | Fault::JournalFull | Fault::StackFull | Fault::Mismatch => Layer::Station,
+            Fault::Order(_)
+            | Fault::Limit(_)
+            | Fault::Missing(_)
+            | Fault::NoRoom(_)
+            | Fault::NoMemory => Layer::Table,
+            Fault::NoJob(_)
+            | Fault::StrayPolicy(_)
+            | Fault::ShortList
+            | Fault::Running
+            | Fault::Idle
+            | Fault::Offends(_)
+            | Fault::JournalFull
+            | Fault::StackFull
+            | Fault::Mismatch => Layer::Station,
         }
     }
 
@@ -81,9 +93,19 @@ impl Fault {
         ensures { λ r. ⌜ r ≡ told self .place ⌝ }
     {
         match self {
-            Fault::Form(place) | Fault::Order(place) | Fault::Limit(place) | Fault::Missing(place) | Fault::NoRoom(place) => place,
+            Fault::Form(place)
+            | Fault::Order(place)
+            | Fault::Limit(place)
+            | Fault::Missing(place)
+            | Fault::NoRoom(place) => place,
             Fault::NoJob(place) | Fault::StrayPolicy(place) | Fault::Offends(place) => place,
-            Fault::NoMemory | Fault::ShortList | Fault::Running | Fault::Idle | Fault::JournalFull | Fault::StackFull | Fault::Mismatch => 0,
+            Fault::NoMemory
+            | Fault::ShortList
+            | Fault::Running
+            | Fault::Idle
+            | Fault::JournalFull
+            | Fault::StackFull
+            | Fault::Mismatch => 0,
         }
     }
 }

@@ -5,7 +5,15 @@ ghost use Rattle.std.specs.Options.{Cases as BySome};
 ghost use Rattle.records.specs.Faults.{answer, at-place};
 ghost use Rattle.records.specs.Rules.{AllCalled, FirstUncalled, breach, call-there, earlier-bad, earlier-edge, held, in-limits, in-order, is-there, no-bads, no-defs, no-edges, no-marks, no-nodes, no-quota, no-tariffs, parts-in-limits, parts-there, rises-bad, rises-edge, rises-mark, rises-tariff, state-there};
 use crate::fault::Fault;
-use crate::record::{BadRecord, EdgeRecord, Kind, Line, MarkRecord, NodeRecord, PolicyRecord, Sofar, TariffRecord};
+use crate::record::BadRecord;
+use crate::record::EdgeRecord;
+use crate::record::Kind;
+use crate::record::Line;
+use crate::record::MarkRecord;
+use crate::record::NodeRecord;
+use crate::record::PolicyRecord;
+use crate::record::Sofar;
+use crate::record::TariffRecord;
 
 fn has_no_tariffs(sofar: Sofar) -> bool
     ensures { λ r. ⌜ r ≡ no-tariffs (held (sofar .entry)) ⌝ }
@@ -58,7 +66,8 @@ fn bad_is_earlier(x: BadRecord, y: BadRecord) -> bool
 fn edge_is_earlier(x: EdgeRecord, y: EdgeRecord) -> bool
     ensures { λ r. ⌜ r ≡ earlier-edge x y ⌝ }
 {
-    x.policy < y.policy || (x.policy == y.policy && (x.from < y.from || (x.from == y.from && x.event < y.event)))
+    x.policy < y.policy
+        || (x.policy == y.policy && (x.from < y.from || (x.from == y.from && x.event < y.event)))
 }
 
 fn bad_rises(bads: &[BadRecord], bad: BadRecord) -> bool
@@ -118,7 +127,11 @@ fn is_in_limits(sofar: Sofar, line: Line) -> bool
     match line {
         Line::Policy(r) => r.policy < 8 && r.states > 0 && r.states <= 8 && r.start < 8,
         Line::Bad(r) => r.policy < 8 && r.state < 8,
-        Line::Edge(r) => sofar.edges.len() < 512 && r.policy < 8 && r.from < 8 && r.event < 256 && r.to < 8,
+        Line::Edge(r) => sofar.edges.len() < 512
+            && r.policy < 8
+            && r.from < 8
+            && r.event < 256
+            && r.to < 8,
         Line::Quota(k) => k < 7,
         Line::Mark(r) => r.event < 256,
         Line::Node(r) => r.node < 128 && parts_are_in_limits(r.kind, r.a, r.b),
@@ -149,7 +162,8 @@ fn names_are_there(sofar: Sofar, line: Line) -> bool
     match line {
         Line::Policy(r) => r.start < r.states,
         Line::Bad(r) => state_is_there(sofar.policies, r.policy, r.state),
-        Line::Edge(r) => state_is_there(sofar.policies, r.policy, r.from) && state_is_there(sofar.policies, r.policy, r.to),
+        Line::Edge(r) => state_is_there(sofar.policies, r.policy, r.from)
+            && state_is_there(sofar.policies, r.policy, r.to),
         Line::Mark(_) => sofar.quota.is_some(),
         Line::Node(r) => parts_are_there(r.kind, r.node, r.a, r.b),
         Line::Def(r) => r.node < sofar.nodes.len() as u64,

@@ -5,8 +5,19 @@ ghost use mathlib.Core.Path.{_≡_};
 ghost use Rattle.records.specs.declared.record.Line.the-variants.{Policy, Bad, Edge, Quota, Mark, Node, Def, Tariff};
 ghost use Rattle.std.specs.Options.{Cases as BySome};
 ghost use Rattle.texts.specs.Lines.{KindAt, LineAt, NoKind, NoLetter, NoLine, NoneOf, letter-of, unused};
-use crate::number::{field, last_field, last_pair, word};
-use records::record::{BadRecord, DefRecord, EdgeRecord, Kind, Line, MarkRecord, NodeRecord, PolicyRecord, TariffRecord};
+use crate::number::field;
+use crate::number::last_field;
+use crate::number::last_pair;
+use crate::number::word;
+use records::record::BadRecord;
+use records::record::DefRecord;
+use records::record::EdgeRecord;
+use records::record::Kind;
+use records::record::Line;
+use records::record::MarkRecord;
+use records::record::NodeRecord;
+use records::record::PolicyRecord;
+use records::record::TariffRecord;
 
 // The kind that a letter stands for.
 fn kind_of(letter: u8) -> Option<Kind>
@@ -52,7 +63,14 @@ fn policy_line(text: &[u8], at: usize) -> Option<(Line, usize)>
 {
     let (policy, at) = field(text, at, b"policy=")?;
     let (states, start, end) = last_pair(text, at, b" states=", b" start=")?;
-    Some((Line::Policy(PolicyRecord { policy, states, start }), end))
+    Some((
+        Line::Policy(PolicyRecord {
+            policy,
+            states,
+            start,
+        }),
+        end,
+    ))
 }
 
 fn bad_line(text: &[u8], at: usize) -> Option<(Line, usize)>
@@ -70,7 +88,15 @@ fn edge_line(text: &[u8], at: usize) -> Option<(Line, usize)>
     let (policy, at) = field(text, at, b"edge=")?;
     let (from, at) = field(text, at, b" from=")?;
     let (event, to, end) = last_pair(text, at, b" event=", b" to=")?;
-    Some((Line::Edge(EdgeRecord { policy, from, event, to }), end))
+    Some((
+        Line::Edge(EdgeRecord {
+            policy,
+            from,
+            event,
+            to,
+        }),
+        end,
+    ))
 }
 
 fn quota_line(text: &[u8], at: usize) -> Option<(Line, usize)>

@@ -6,8 +6,10 @@ ghost use Rattle.texts.specs.Contents.{SameLists, Within, contents, front};
 ghost use Rattle.texts.specs.Readings.{LinesRead, OnlyOutcome, Outcome, UndefinedCall};
 use crate::calls::node_place;
 use crate::line::line_at;
-use crate::lists::{Counts, Lists};
-use crate::store::{check_line, store};
+use crate::lists::Counts;
+use crate::lists::Lists;
+use crate::store::check_line;
+use crate::store::store;
 use records::fault::Fault;
 use records::rules::undefined_call;
 
@@ -16,7 +18,16 @@ fn read_lines(text: &[u8], lists: &mut Lists) -> Result<Counts, Fault>
     ensures same { λ _. ⌜ SameLists (now (lists .exit)) (now (lists .entry)) ⌝ }
     ensures reads { λ r. ⌜ LinesRead (now (text .entry)) (contents (now (lists .entry))) (contents (now (lists .exit))) r ⌝ }
 {
-    let mut counts = Counts { policies: 0, bads: 0, edges: 0, quota: None, marks: 0, nodes: 0, defs: 0, tariffs: 0 };
+    let mut counts = Counts {
+        policies: 0,
+        bads: 0,
+        edges: 0,
+        quota: None,
+        marks: 0,
+        nodes: 0,
+        defs: 0,
+        tariffs: 0,
+    };
     let mut at = 0;
     while at < text.len() {
         let (line, end) = line_at(text, at).ok_or(Fault::Form(at))?;

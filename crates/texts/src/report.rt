@@ -3,11 +3,19 @@ ghost use Rattle.std.specs.Of.String.{string-bytes};
 ghost use Rattle.std.specs.Vec.{made};
 ghost use Rattle.std.specs.declared.option.Option.the-variants.{Some};
 ghost use Rattle.texts.specs.Reports.{Reported, Tallied, back-text, counts-text, front-text, quota-text};
-use crate::lists::{Counts, Lists};
+use crate::lists::Counts;
+use crate::lists::Lists;
 use crate::reading::read;
 use records::display::FaultDisplay;
 use records::fault::Fault;
-use records::record::{BadRecord, DefRecord, EdgeRecord, Kind, MarkRecord, NodeRecord, PolicyRecord, TariffRecord};
+use records::record::BadRecord;
+use records::record::DefRecord;
+use records::record::EdgeRecord;
+use records::record::Kind;
+use records::record::MarkRecord;
+use records::record::NodeRecord;
+use records::record::PolicyRecord;
+use records::record::TariffRecord;
 use std::alloc::AllocError;
 use std::alloc::Global;
 use std::fmt;
@@ -35,9 +43,17 @@ impl fmt::Display for Front as FrontDisplay {
     ghost shown = { λ n. Some (front-text (n .0)) };
 
     fn fmt<W: fmt::Write>(&self, f: &mut fmt::Formatter<W>) -> fmt::Result {
-        let Counts { policies, bads, edges, .. } = self.0;
+        let Counts {
+            policies,
+            bads,
+            edges,
+            ..
+        } = self.0;
         let quota = Quota(self.0.quota);
-        write!(f, "policies={policies} bads={bads} edges={edges} quota={quota}")
+        write!(
+            f,
+            "policies={policies} bads={bads} edges={edges} quota={quota}"
+        )
     }
 }
 
@@ -49,8 +65,17 @@ impl fmt::Display for Back as BackDisplay {
     ghost shown = { λ n. Some (back-text (n .0)) };
 
     fn fmt<W: fmt::Write>(&self, f: &mut fmt::Formatter<W>) -> fmt::Result {
-        let Counts { marks, nodes, defs, tariffs, .. } = self.0;
-        write!(f, "marks={marks} nodes={nodes} defs={defs} tariffs={tariffs}")
+        let Counts {
+            marks,
+            nodes,
+            defs,
+            tariffs,
+            ..
+        } = self.0;
+        write!(
+            f,
+            "marks={marks} nodes={nodes} defs={defs} tariffs={tariffs}"
+        )
     }
 }
 
@@ -69,11 +94,28 @@ pub impl fmt::Display for Counts as CountsDisplay {
 pub fn tally(text: &[u8]) -> Result<Counts, Fault>
     ensures { λ r. ⌜ Tallied (now (text .entry)) r ⌝ }
 {
-    let mut policies = [PolicyRecord { policy: 0, states: 0, start: 0 }; 8];
-    let mut bads = [BadRecord { policy: 0, state: 0 }; 64];
-    let mut edges = [EdgeRecord { policy: 0, from: 0, event: 0, to: 0 }; 512];
+    let mut policies = [PolicyRecord {
+        policy: 0,
+        states: 0,
+        start: 0,
+    }; 8];
+    let mut bads = [BadRecord {
+        policy: 0,
+        state: 0,
+    }; 64];
+    let mut edges = [EdgeRecord {
+        policy: 0,
+        from: 0,
+        event: 0,
+        to: 0,
+    }; 512];
     let mut marks = [MarkRecord { event: 0 }; 256];
-    let mut nodes = [NodeRecord { node: 0, kind: Kind::Empty, a: 0, b: 0 }; 128];
+    let mut nodes = [NodeRecord {
+        node: 0,
+        kind: Kind::Empty,
+        a: 0,
+        b: 0,
+    }; 128];
     let mut defs = [DefRecord { def: 0, node: 0 }; 32];
     let mut tariffs = [TariffRecord { event: 0, cost: 0 }; 256];
     let mut lists = Lists {

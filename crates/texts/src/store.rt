@@ -4,9 +4,11 @@ ghost use mathlib.Core.Path.{_≡_};
 ghost use Rattle.records.specs.Faults.{answer, at-place};
 ghost use Rattle.records.specs.Rules.{held};
 ghost use Rattle.texts.specs.Contents.{SameLists, Within, broken, contents, counted, front, has-room, put, sizes};
-use crate::lists::{Counts, Lists};
+use crate::lists::Counts;
+use crate::lists::Lists;
 use records::fault::Fault;
-use records::record::{Line, Sofar};
+use records::record::Line;
+use records::record::Sofar;
 use records::rules::check;
 
 // The records at the front of the lists.
@@ -14,7 +16,16 @@ fn sofar<'a>(lists: &'a Lists, counts: Counts) -> Sofar<'a>
     requires { ⌜ Within counts (contents (now lists)) ⌝ }
     ensures { λ r. ⌜ held r ≡ front counts (contents (now (lists .entry))) ⌝ }
 {
-    let Counts { policies, bads, edges, quota, marks, nodes, defs, tariffs } = counts;
+    let Counts {
+        policies,
+        bads,
+        edges,
+        quota,
+        marks,
+        nodes,
+        defs,
+        tariffs,
+    } = counts;
     Sofar {
         policies: &lists.policies[0..policies],
         bads: &lists.bads[0..bads],
@@ -67,32 +78,56 @@ pub fn store(lists: &mut Lists, counts: Counts, line: Line) -> Counts
     match line {
         Line::Policy(r) => {
             lists.policies[counts.policies] = r;
-            Counts { policies: counts.policies + 1, ..counts }
+            Counts {
+                policies: counts.policies + 1,
+                ..counts
+            }
         }
         Line::Bad(r) => {
             lists.bads[counts.bads] = r;
-            Counts { bads: counts.bads + 1, ..counts }
+            Counts {
+                bads: counts.bads + 1,
+                ..counts
+            }
         }
         Line::Edge(r) => {
             lists.edges[counts.edges] = r;
-            Counts { edges: counts.edges + 1, ..counts }
+            Counts {
+                edges: counts.edges + 1,
+                ..counts
+            }
         }
-        Line::Quota(k) => Counts { quota: Some(k), ..counts },
+        Line::Quota(k) => Counts {
+            quota: Some(k),
+            ..counts
+        },
         Line::Mark(r) => {
             lists.marks[counts.marks] = r;
-            Counts { marks: counts.marks + 1, ..counts }
+            Counts {
+                marks: counts.marks + 1,
+                ..counts
+            }
         }
         Line::Node(r) => {
             lists.nodes[counts.nodes] = r;
-            Counts { nodes: counts.nodes + 1, ..counts }
+            Counts {
+                nodes: counts.nodes + 1,
+                ..counts
+            }
         }
         Line::Def(r) => {
             lists.defs[counts.defs] = r;
-            Counts { defs: counts.defs + 1, ..counts }
+            Counts {
+                defs: counts.defs + 1,
+                ..counts
+            }
         }
         Line::Tariff(r) => {
             lists.tariffs[counts.tariffs] = r;
-            Counts { tariffs: counts.tariffs + 1, ..counts }
+            Counts {
+                tariffs: counts.tariffs + 1,
+                ..counts
+            }
         }
     }
 }

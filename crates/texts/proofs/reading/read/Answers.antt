@@ -17,14 +17,14 @@ pub returns-in-Break-counts : need.returns-in-Break-counts
 returns-in-Break-counts c =
     let p = err-from-errBy (c .from-residual .result) (c .from-residual .ensures .1) in
     let o : Outcome (c .args .text .now) (contents (c .args .lists .now)) (contents (c .read-lines .last .lists)) (c .from-residual .result) =
-        rw (p .1, p .2) (Outcome.broken-line (c .if-text-gt65536 .left) (c .in-Break-counts .ensures tt .reads)) in
+    rw (p .1, p .2) (Outcome.broken-line (c .if-text-gt65536 .left) (c .in-Break-counts .ensures tt .reads)) in
     record { same = c .in-Break-counts .ensures tt .same; outcome = o; only = only o }
 
 pub returns-in-Break-check-calls : need.returns-in-Break-check-calls
 returns-in-Break-check-calls c =
     let p = err-from-errBy (c .from-residual-in-Break-check-calls .result) (c .from-residual-in-Break-check-calls .ensures .1) in
     let o : Outcome (c .args .text .now) (contents (c .args .lists .now)) (contents (c .read-lines .last .lists)) (c .from-residual-in-Break-check-calls .result) =
-        rw (p .1, p .2) (uncalled (c .if-text-gt65536 .left) (c .in-Continue-counts .ensures tt .reads) (c .in-Break-check-calls .ensures tt)) in
+    rw (p .1, p .2) (uncalled (c .if-text-gt65536 .left) (c .in-Continue-counts .ensures tt .reads) (c .in-Break-check-calls .ensures tt)) in
     record { same = c .in-Continue-counts .ensures tt .same; outcome = o; only = only o }
 
 pub returns : need.returns

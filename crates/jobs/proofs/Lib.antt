@@ -1,0 +1,3 @@
+-- Lemmas on the making of a table.
+pub mod Fits
+pub mod Exclusive

@@ -1,0 +1,4 @@
+-- Definitions that the contracts cite.
+pub mod Placed
+pub mod Contents
+pub mod Making
