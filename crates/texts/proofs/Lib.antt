@@ -9,3 +9,5 @@ pub mod Apart
 pub mod Outcomes
 pub mod Places
 pub mod OneWay
+pub mod Whole
+pub mod Accepts

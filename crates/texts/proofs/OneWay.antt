@@ -94,7 +94,7 @@ module _ {room : Room} {text : List ℕ} where
         ⊎-elim (λ on. no-further on (x .found) (count-at x ∙ sym (count-at y))) (λ on. sym (no-further on (y .found) (count-at y ∙ sym (count-at x)))) (linear room text (x .passed) (y .passed))
 
 -- there is one lowest node that calls a definition which is not there
-called-not : (b : Bool) → b ≡ true → b ≡ false → ⊥
+pub called-not : (b : Bool) → b ≡ true → b ≡ false → ⊥
 called-not b e f = unlike (sym f ∙ e)
 
 same-uncalled : (nodes : List NodeRecord) (defs n m : ℕ) → FirstUncalled nodes defs n → FirstUncalled nodes defs m → n ≡ m

@@ -36,7 +36,7 @@ module _ (room : Room) (text : List ℕ) where
   further Onward.here found good = Onward.step found good Onward.here
   further (Onward.step f g on) found good = Onward.step f g (further on found good)
 
-  from-begin : {at : ℕ} {rs : Records} → Passed room text at rs → Leads 0 no-records at rs
+  pub from-begin : {at : ℕ} {rs : Records} → Passed room text at rs → Leads 0 no-records at rs
   from-begin Passed.begin = Onward.here
   from-begin (Passed.next p found good) = further (from-begin p) found good
 

@@ -55,7 +55,7 @@ module _ {room : Room} {text : List ℕ} where
 pub unlike : false ≡ true → ⊥
 unlike e = let z : _≡_ {A = ℕ} 0 1 = cc in omega arith
 
-second-part : (a b : Bool) → (a && b) ≡ true → b ≡ true
+pub second-part : (a b : Bool) → (a && b) ≡ true → b ≡ true
 second-part true b e = e
 second-part false true e = refl
 second-part false false e = e

@@ -4,3 +4,4 @@ pub mod Lines
 pub mod Contents
 pub mod Readings
 pub mod Reports
+pub mod Whole

@@ -1,5 +1,6 @@
 // Reads a text of records, line by line.
 mod calls;
+pub mod laws;
 mod line;
 pub mod lists;
 mod number;
