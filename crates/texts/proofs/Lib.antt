@@ -11,3 +11,4 @@ pub mod Places
 pub mod OneWay
 pub mod Whole
 pub mod Accepts
+pub mod Enough

@@ -5,6 +5,7 @@ use mathlib.Core.Logic.{_⊎_, inl, inr, ⊎-elim}
 use mathlib.Core.List.{List, _++_}
 use Prim.Native.Nat.{ℕ, _+_, _≤_, _<_}
 use native.Mathlib.Omega.{arith}
+use borrow.Author.Tests.{both-ways}
 use lib.ListN.{length, take, drop}
 use Rattle.std.proofs.shelf.Lists.{length-push, length-take-le, take-append-drop}
 use Rattle.std.proofs.str.Laws.{order}
@@ -23,7 +24,7 @@ use Rattle.records.specs.Faults.{Refusal, refusal, told}
 use Rattle.records.specs.Rules.{AllCalled, FirstUncalled, Records, added, call-there, node-at}
 use Rattle.texts.proofs.Apart.{same-line}
 use Rattle.texts.proofs.Outcomes.{Ends, Onward, linear, one-outcome}
-use Rattle.texts.proofs.Places.{goes-on, node-counts, unlike}
+use Rattle.texts.proofs.Places.{goes-on, node-counts}
 use Rattle.texts.specs.Contents.{Contents, Room, broken, front, sizes}
 use Rattle.texts.specs.Lines.{LineAt}
 use Rattle.texts.specs.Readings.{NodeAt, OnlyOutcome, Outcome, Overwritten, Passed, ReadTo, Refused, UndefinedCall}
@@ -95,7 +96,7 @@ module _ {room : Room} {text : List ℕ} where
 
 -- there is one lowest node that calls a definition which is not there
 pub called-not : (b : Bool) → b ≡ true → b ≡ false → ⊥
-called-not b e f = unlike (sym f ∙ e)
+called-not b e f = both-ways b f e
 
 same-uncalled : (nodes : List NodeRecord) (defs n m : ℕ) → FirstUncalled nodes defs n → FirstUncalled nodes defs m → n ≡ m
 same-uncalled nodes defs n m x y =

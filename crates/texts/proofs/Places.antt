@@ -1,14 +1,15 @@
 -- The line of a node is found again. Assumes nothing.
 use mathlib.Core.Path.{_≡_, refl, sym, ap, subst, _∙_}
-use mathlib.Core.Bool.{Bool, true, false, _&&_}
+use mathlib.Core.Bool.{Bool, true, false}
 use mathlib.Core.Logic.{_⊎_, inl, inr, ⊎-elim}
 use mathlib.Core.List.{List}
 use Prim.Native.Nat.{ℕ, _+_, _≤_, _<_}
 use native.Mathlib.Omega.{arith}
 use lib.Dec.{eqb}
 use lib.ListN.{length}
-use borrow.Author.Tests.{eqb-true, eqb-false}
+use borrow.Author.Tests.{clash, eqb-false, eqb-true}
 use Rattle.std.proofs.shelf.Lists.{length-push}
+use Rattle.std.proofs.shelf.Tests.{and-parts}
 use Rattle.std.specs.declared.option.Option.the-variants.{Some, None}
 use Rattle.records.proofs.Kept.{kept}
 use Rattle.records.specs.declared.record.Line.{Line}
@@ -52,30 +53,22 @@ module _ {room : Room} {text : List ℕ} where
   pub that-is-all : {at : ℕ} {rs all : Records} → Passed room text at rs → Passed room text (length text) all → NoLine text at → rs ≡ all
   that-is-all p q none = ⊎-elim (λ on. ahead-end on none) (λ on. back-end on refl) (linear room text p q)
 
-pub unlike : false ≡ true → ⊥
-unlike e = let z : _≡_ {A = ℕ} 0 1 = cc in omega arith
-
-pub second-part : (a b : Bool) → (a && b) ≡ true → b ≡ true
-second-part true b e = e
-second-part false true e = refl
-second-part false false e = e
-
 -- a good line of a node has the number of nodes before it
 pub node-counts : (room : Room) (rs : Records) (r : NodeRecord) → broken room rs (Node r) ≡ None → r .node ≡ length (rs .nodes)
 node-counts room rs r good =
     let order = kept rs (Node r) (breach-from room rs (Node r) good) .order in
-    eqb-true (r .node) (length (rs .nodes)) (second-part (no-defs rs) _ order)
+    eqb-true (r .node) (length (rs .nodes)) (and-parts (no-defs rs) _ order .1)
 
 -- such a line has a record
 the-node : (n : ℕ) (line : Line) → is-node n line ≡ true → (r : NodeRecord) × (line ≡ Node r) × (r .node ≡ n)
-the-node n (Policy r) e = absurd (unlike e)
-the-node n (Bad r) e = absurd (unlike e)
-the-node n (Edge r) e = absurd (unlike e)
-the-node n (Quota k) e = absurd (unlike e)
-the-node n (Mark r) e = absurd (unlike e)
+the-node n (Policy r) e = absurd (clash e)
+the-node n (Bad r) e = absurd (clash e)
+the-node n (Edge r) e = absurd (clash e)
+the-node n (Quota k) e = absurd (clash e)
+the-node n (Mark r) e = absurd (clash e)
 the-node n (Node r) e = (r, refl, eqb-true (r .node) n e)
-the-node n (Def r) e = absurd (unlike e)
-the-node n (Tariff r) e = absurd (unlike e)
+the-node n (Def r) e = absurd (clash e)
+the-node n (Tariff r) e = absurd (clash e)
 
 -- a good line that is not that of node n leaves at most n nodes
 still-few : (room : Room) (rs : Records) (n : ℕ) (line : Line) → broken room rs line ≡ None → is-node n line ≡ false → length (rs .nodes) ≤ n → length (added rs line .nodes) ≤ n

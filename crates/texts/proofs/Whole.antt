@@ -7,8 +7,9 @@ use native.Mathlib.Omega.{arith}
 use lib.Dec.{eqb}
 use lib.ListN.{length, drop}
 use lib.Seq.{drop-append-seam}
-use borrow.Author.Tests.{eqb-true}
-use Rattle.std.proofs.shelf.Lists.{drop-all, drop-drop, length-append, length-drop}
+use borrow.Author.Tests.{clash, eqb-true}
+use Rattle.std.proofs.shelf.Lists.{drop-all, drop-drop, length-append, length-drop, map-push}
+use Rattle.std.proofs.shelf.Tests.{and-parts}
 use Rattle.std.specs.Options.{isSome}
 use Rattle.std.specs.declared.option.Option.{Option}
 use Rattle.std.specs.declared.option.Option.the-variants.{Some, None}
@@ -25,7 +26,6 @@ use Rattle.records.specs.declared.record.TariffRecord.{TariffRecord}
 use Rattle.records.specs.Rules.{Records, added, in-order, no-bads, no-defs, no-edges, no-marks, no-nodes, no-quota, no-tariffs}
 use Rattle.texts.proofs.Broken.{breach-from}
 use Rattle.texts.proofs.Outcomes.{Onward, from-begin}
-use Rattle.texts.proofs.Places.{second-part, unlike}
 use Rattle.texts.specs.Contents.{Room, broken}
 use Rattle.texts.specs.Lines.{Formed, LineAt, line-of}
 use Rattle.texts.specs.Readings.{Passed, no-records}
@@ -63,14 +63,9 @@ empty : {X : Type 0} (xs : List X) → eqb (length xs) 0 ≡ true → xs ≡ []
 empty [] e = refl
 empty (x ∷ xs) e = absurd (omega (arith, eqb-true _ 0 e))
 
-first-part : (a b : Bool) → (a && b) ≡ true → a ≡ true
-first-part true b e = refl
-first-part false true e = e
-first-part false false e = e
-
 no-lines : (q : Option ℕ) → not (isSome q) ≡ true → quota-lines q ≡ []
 no-lines None e = refl
-no-lines (Some k) e = absurd (unlike e)
+no-lines (Some k) e = absurd (clash e)
 
 -- the lines of each kind with those of the kinds behind it
 abbrev from-tariffs : Records → List Line
@@ -96,7 +91,7 @@ from-bads rs = map Bad (rs .bads) ++ from-edges rs
 
 -- no record of a kind, and nothing behind
 none-here : {X : Type 0} (f : X → Line) (xs : List X) (behind : List Line) (b : Bool) → (eqb (length xs) 0 && b) ≡ true → (b ≡ true → behind ≡ []) → map f xs ++ behind ≡ []
-none-here f xs behind b e rest = ap (λ l. map f l ++ behind) (empty xs (first-part (eqb (length xs) 0) b e)) ∙ rest (second-part (eqb (length xs) 0) b e)
+none-here f xs behind b e rest = ap (λ l. map f l ++ behind) (empty xs (and-parts (eqb (length xs) 0) b e .0)) ∙ rest (and-parts (eqb (length xs) 0) b e .1)
 
 none-tariffs : (rs : Records) → no-tariffs rs ≡ true → from-tariffs rs ≡ []
 none-tariffs rs e = ap (λ l. map Tariff l) (empty (rs .tariffs) e)
@@ -112,7 +107,7 @@ none-marks rs e = none-here (λ r. Mark r) (rs .marks) (from-nodes rs) (no-nodes
 
 none-quota : (rs : Records) → no-quota rs ≡ true → from-quota rs ≡ []
 none-quota rs e =
-    ap (λ l. l ++ from-marks rs) (no-lines (rs .quota) (first-part (not (isSome (rs .quota))) (no-marks rs) e)) ∙ none-marks rs (second-part (not (isSome (rs .quota))) (no-marks rs) e)
+    ap (λ l. l ++ from-marks rs) (no-lines (rs .quota) (and-parts (not (isSome (rs .quota))) (no-marks rs) e .0)) ∙ none-marks rs (and-parts (not (isSome (rs .quota))) (no-marks rs) e .1)
 
 none-edges : (rs : Records) → no-edges rs ≡ true → from-edges rs ≡ []
 none-edges rs e = none-here (λ r. Edge r) (rs .edges) (from-quota rs) (no-quota rs) e (none-quota rs)
@@ -124,43 +119,39 @@ none-bads rs e = none-here (λ r. Bad r) (rs .bads) (from-edges rs) (no-edges rs
 behind : (xs ys zs : List Line) (l : Line) → ys ≡ zs ++ l ∷ [] → xs ++ ys ≡ (xs ++ zs) ++ l ∷ []
 behind xs ys zs l e = ap (λ r. xs ++ r) e ∙ sym (append-assoc xs zs (l ∷ []))
 
-map-more : {X : Type 0} (f : X → Line) (xs : List X) (x : X) → map f (xs ++ x ∷ []) ≡ map f xs ++ f x ∷ []
-map-more f [] x = refl
-map-more f (y ∷ ys) x = ap (λ l. f y ∷ l) (map-more f ys x)
-
 -- one record more of a kind, with nothing behind
 here : {X : Type 0} (f : X → Line) (xs : List X) (x : X) (rest : List Line) → rest ≡ [] → map f (xs ++ x ∷ []) ++ rest ≡ (map f xs ++ rest) ++ f x ∷ []
 here f xs x rest e =
-    ap (λ r. map f (xs ++ x ∷ []) ++ r) e ∙ append-nil (map f (xs ++ x ∷ [])) ∙ map-more f xs x ∙ ap (λ r. r ++ f x ∷ []) (sym (ap (λ r. map f xs ++ r) e ∙ append-nil (map f xs)))
+    ap (λ r. map f (xs ++ x ∷ []) ++ r) e ∙ append-nil (map f (xs ++ x ∷ [])) ∙ map-push f xs x ∙ ap (λ r. r ++ f x ∷ []) (sym (ap (λ r. map f xs ++ r) e ∙ append-nil (map f xs)))
 
 -- a line in its order comes behind all lines so far
 lines-added : (rs : Records) (l : Line) → in-order rs l ≡ true → lines-of (added rs l) ≡ lines-of rs ++ l ∷ []
-lines-added rs (Policy r) e = here (λ r. Policy r) (rs .policies) r (from-bads rs) (none-bads rs (first-part (no-bads rs) _ e))
+lines-added rs (Policy r) e = here (λ r. Policy r) (rs .policies) r (from-bads rs) (none-bads rs (and-parts (no-bads rs) _ e .0))
 lines-added rs (Bad r) e =
     behind (map Policy (rs .policies)) _ _ (Bad r) (
-    here (λ r. Bad r) (rs .bads) r (from-edges rs) (none-edges rs (first-part (no-edges rs) _ e)))
+    here (λ r. Bad r) (rs .bads) r (from-edges rs) (none-edges rs (and-parts (no-edges rs) _ e .0)))
 lines-added rs (Edge r) e =
     behind (map Policy (rs .policies)) _ _ (Edge r) (
     behind (map Bad (rs .bads)) _ _ (Edge r) (
-    here (λ r. Edge r) (rs .edges) r (from-quota rs) (none-quota rs (first-part (no-quota rs) _ e))))
+    here (λ r. Edge r) (rs .edges) r (from-quota rs) (none-quota rs (and-parts (no-quota rs) _ e .0))))
 lines-added rs (Quota k) e =
     behind (map Policy (rs .policies)) _ _ (Quota k) (
     behind (map Bad (rs .bads)) _ _ (Quota k) (
     behind (map Edge (rs .edges)) _ _ (Quota k) (
-    ap (λ r. Quota k ∷ r) (none-marks rs (second-part (not (isSome (rs .quota))) (no-marks rs) e)) ∙ ap (λ r. r ++ Quota k ∷ []) (sym (none-quota rs e)))))
+    ap (λ r. Quota k ∷ r) (none-marks rs (and-parts (not (isSome (rs .quota))) (no-marks rs) e .1)) ∙ ap (λ r. r ++ Quota k ∷ []) (sym (none-quota rs e)))))
 lines-added rs (Mark r) e =
     behind (map Policy (rs .policies)) _ _ (Mark r) (
     behind (map Bad (rs .bads)) _ _ (Mark r) (
     behind (map Edge (rs .edges)) _ _ (Mark r) (
     behind (quota-lines (rs .quota)) _ _ (Mark r) (
-    here (λ r. Mark r) (rs .marks) r (from-nodes rs) (none-nodes rs (first-part (no-nodes rs) _ e))))))
+    here (λ r. Mark r) (rs .marks) r (from-nodes rs) (none-nodes rs (and-parts (no-nodes rs) _ e .0))))))
 lines-added rs (Node r) e =
     behind (map Policy (rs .policies)) _ _ (Node r) (
     behind (map Bad (rs .bads)) _ _ (Node r) (
     behind (map Edge (rs .edges)) _ _ (Node r) (
     behind (quota-lines (rs .quota)) _ _ (Node r) (
     behind (map Mark (rs .marks)) _ _ (Node r) (
-    here (λ r. Node r) (rs .nodes) r (from-defs rs) (none-defs rs (first-part (no-defs rs) _ e)))))))
+    here (λ r. Node r) (rs .nodes) r (from-defs rs) (none-defs rs (and-parts (no-defs rs) _ e .0)))))))
 lines-added rs (Def r) e =
     behind (map Policy (rs .policies)) _ _ (Def r) (
     behind (map Bad (rs .bads)) _ _ (Def r) (
@@ -168,7 +159,7 @@ lines-added rs (Def r) e =
     behind (quota-lines (rs .quota)) _ _ (Def r) (
     behind (map Mark (rs .marks)) _ _ (Def r) (
     behind (map Node (rs .nodes)) _ _ (Def r) (
-    here (λ r. Def r) (rs .defs) r (from-tariffs rs) (none-tariffs rs (first-part (no-tariffs rs) _ e))))))))
+    here (λ r. Def r) (rs .defs) r (from-tariffs rs) (none-tariffs rs (and-parts (no-tariffs rs) _ e .0))))))))
 lines-added rs (Tariff r) e =
     behind (map Policy (rs .policies)) _ _ (Tariff r) (
     behind (map Bad (rs .bads)) _ _ (Tariff r) (
@@ -177,7 +168,7 @@ lines-added rs (Tariff r) e =
     behind (map Mark (rs .marks)) _ _ (Tariff r) (
     behind (map Node (rs .nodes)) _ _ (Tariff r) (
     behind (map Def (rs .defs)) _ _ (Tariff r) (
-    map-more (λ r. Tariff r) (rs .tariffs) r)))))))
+    map-push (λ r. Tariff r) (rs .tariffs) r)))))))
 
 -- the lines of what good lines say are those lines
 lines-said : (room : Room) (rs : Records) (ls : List Line) → Keeps room rs ls → lines-of (said rs ls) ≡ lines-of rs ++ ls

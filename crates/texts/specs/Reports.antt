@@ -49,11 +49,12 @@ blank = record {
   tariffs = replicate 256 (record { event = 0; cost = 0 });
 }
 
--- the answer is that of a reading into such lists
+-- the answer is that of a reading into such lists, which are long enough for every text
 pub record Tallied (text : List ℕ) (r : Result Counts Fault) : Type 0 where
   pub lists : Contents
   pub outcome : Outcome text blank lists r
   pub only : (other : Contents) (answer : Result Counts Fault) → Outcome text blank other answer → answer ≡ r
+  pub never-short : (fault : Fault) → r ≡ Err fault → told fault .number ≡ 7 → ⊥
 
 -- these bytes are the line of that answer
 pub record Reported (text : List ℕ) (bytes : List ℕ) : Type 0 where
