@@ -1,11 +1,15 @@
 -- The digits at a place of a text. Assumes nothing.
 use mathlib.Core.Path.{_≡_, refl, sym, ap, subst, _∙_}
+use mathlib.Core.Bool.{true, false, not, _&&_, _||_}
 use mathlib.Core.List.{List, [], _∷_, _++_}
 use mathlib.Core.Logic.{_⊎_, inl, inr, ⊎-elim}
 use Prim.Native.Nat.{ℕ, _+_, _-_, _^_, _≤_, _<_}
 use native.Mathlib.Nat.{add-zero}
 use native.Mathlib.Omega.{arith}
+use lib.Dec.{eqb, leb}
 use lib.ListN.{length, getD, take, drop}
+use borrow.Author.Tests.{eqb-false, eqb-true, leb-false, leb-true, not-false, not-true}
+use Rattle.std.proofs.shelf.Tests.{and-cases, and-parts, or-cases, or-parts}
 use Rattle.std.specs.Reads.{value, Digits}
 use Rattle.std.specs.Text.{In}
 use Rattle.std.specs.Written.{decimal}
@@ -16,7 +20,7 @@ use Rattle.std.proofs.shelf.Numerals.{Numerals, numerals-by-value, tells-by-ind
 use Rattle.std.proofs.str.Laws.{order}
 use Rattle.records.specs.Written.{written}
 use Rattle.records.proofs.Numbers.{written-is}
-use Rattle.texts.specs.Fields.{Small, Past, Run, NoNumber, Number}
+use Rattle.texts.specs.Fields.{Small, Past, Run, NoNumber, Number, spelled}
 use Rattle.texts.proofs.Numbers.{own, same-run, written-digits}
 
 abbrev pub AllDigits : List ℕ → Type 0
@@ -55,28 +59,53 @@ module _ {text : List ℕ} {at end : ℕ} (run : Run text at end) where
   only n rest small past e =
       same-run part (written n) (drop end text) rest (digits-by-index part part-digits) (written-digits n small) part-past past (sym part-split ∙ e) .0 ∙ written-is n (omega arith)
 
-  pub none-empty : length part ≡ 0 → NoNumber text at
+  none-empty : length part ≡ 0 → NoNumber text at
   none-empty none n rest small past e = absurd (omega (arith, ap length (only n rest small past e), decimal-some n (omega arith)))
 
-  pub none-long : 10 < length part → NoNumber text at
+  none-long : 10 < length part → NoNumber text at
   none-long long n rest small past e =
       absurd (omega (arith, ap length (only n rest small past e), length-decimal-le 10 n (omega arith) small (omega arith)))
 
-  pub none-zero : getD part 0 0 ≡ 48 → 1 < length part → NoNumber text at
-  none-zero zero long n rest small past e =
+  none-zero : getD part 0 0 ≡ 48 → (length part ≡ 1 → ⊥) → NoNumber text at
+  none-zero zero more n rest small past e =
       let same = only n rest small past e in
       ⊎-elim
       (λ some. absurd (omega (arith, first-decimal n some (omega arith), ap (λ l. getD l 0 0) same)))
-      (λ none. absurd (omega (arith, ap length same, length-decimal-le 1 n (omega arith) (omega arith) (omega arith))))
+      (λ none. absurd (more (omega (arith, ap length same, length-decimal-le 1 n (omega arith) (omega arith) (omega arith), decimal-some n (omega arith)))))
       (order 0 n)
 
-  pub some : 0 < length part → length part ≤ 10 → (getD part 0 0 ≡ 48 → length part ≡ 1) → Number text at (value 10 part) end
-  some more few lead =
-      let small : Small (value 10 part) = value-short own part 10 (digits-by-index part part-digits) few in
-      let back = decimal-value own part (digits-by-index part part-digits) more lead (omega arith) in
-      record {
-        small = small;
-        within = run .within;
-        reads = part-split ∙ ap (λ l. l ++ drop end text) (sym (written-is _ (omega arith) ∙ back));
-        past = part-past;
-      }
+  -- the tests of a number, one after another
+  pub none-spelled : spelled part ≡ false → NoNumber text at
+  none-spelled e =
+      ⊎-elim (λ empty. none-empty (eqb-true (length part) 0 (not-false (eqb (length part) 0) empty)))
+      (λ others.
+          ⊎-elim (λ long. none-long (leb-false (length part) 10 long))
+          (λ lead. let both = or-parts (not (eqb (getD part 0 0) 48)) _ lead in none-zero (eqb-true (getD part 0 0) 48 (not-false (eqb (getD part 0 0) 48) (both .0))) (eqb-false (length part) 1 (both .1)))
+          (and-cases (leb (length part) 10) _ others))
+      (and-cases (not (eqb (length part) 0)) _ e)
+
+  module _ (good : spelled part ≡ true) where
+    tests : (leb (length part) 10 && (not (eqb (getD part 0 0) 48) || eqb (length part) 1)) ≡ true
+    tests = and-parts (not (eqb (length part) 0)) _ good .1
+
+    pub few : length part ≤ 10
+    few = leb-true (length part) 10 (and-parts (leb (length part) 10) _ tests .0)
+
+    more : 0 < length part
+    more = omega (arith, eqb-false (length part) 0 (not-true (eqb (length part) 0) (and-parts (not (eqb (length part) 0)) _ good .0)))
+
+    lead : getD part 0 0 ≡ 48 → length part ≡ 1
+    lead zero =
+        ⊎-elim (λ other. absurd (eqb-false (getD part 0 0) 48 (not-true (eqb (getD part 0 0) 48) other) zero)) (λ one. eqb-true (length part) 1 one)
+        (or-cases (not (eqb (getD part 0 0) 48)) _ (and-parts (leb (length part) 10) _ tests .1))
+
+    pub some : Number text at (value 10 part) end
+    some =
+        let small : Small (value 10 part) = value-short own part 10 (digits-by-index part part-digits) few in
+        let back = decimal-value own part (digits-by-index part part-digits) more lead (omega arith) in
+        record {
+          small = small;
+          within = run .within;
+          reads = part-split ∙ ap (λ l. l ++ drop end text) (sym (written-is _ (omega arith) ∙ back));
+          past = part-past;
+        }

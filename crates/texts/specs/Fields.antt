@@ -1,7 +1,9 @@
 -- Words, numbers and fields that stand in a text. Assumes nothing.
 use mathlib.Core.Path.{_≡_}
+use mathlib.Core.Bool.{Bool, not, _&&_, _||_}
 use mathlib.Core.List.{List, _∷_, _++_}
 use Prim.Native.Nat.{ℕ, _^_, _≤_, _<_}
+use lib.Dec.{eqb, leb}
 use lib.ListN.{length, getD, drop}
 use Rattle.records.specs.Written.{written}
 use Rattle.std.specs.Text.{In}
@@ -13,6 +15,10 @@ Small n = n < 10 ^ 10
 -- no digit comes first
 abbrev pub Past : List ℕ → Type 0
 Past bytes = In 48 57 (getD bytes 0 0) → ⊥
+
+-- one to ten digits, and no 0 in front of others
+abbrev pub spelled : List ℕ → Bool
+spelled digits = not (eqb (length digits) 0) && (leb (length digits) 10 && (not (eqb (getD digits 0 0) 48) || eqb (length digits) 1))
 
 -- the digits from `at` to `end`, and no more
 pub record Run (text : List ℕ) (at end : ℕ) : Type 0 where

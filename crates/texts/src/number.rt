@@ -6,7 +6,7 @@ ghost use mathlib.Core.Path.{_≡_};
 ghost use Rattle.std.specs.Options.{Cases as BySome};
 ghost use Rattle.std.specs.Reads.{value};
 ghost use Rattle.std.specs.Text.{In};
-ghost use Rattle.texts.specs.Fields.{Field, LastField, LastPair, NoField, NoLastField, NoLastPair, NoNumber, NoWord, Number, Past, Run, Stands};
+ghost use Rattle.texts.specs.Fields.{Field, LastField, LastPair, NoField, NoLastField, NoLastPair, NoNumber, NoWord, Number, Past, Run, Stands, spelled};
 
 // The end of the digits that begin at `at`.
 fn digits_end(text: &[u8], at: usize) -> usize
@@ -33,6 +33,13 @@ fn value_of(digits: &[u8]) -> u64
     number
 }
 
+// Whether these digits write a number: one to ten of them, and no 0 in front of others.
+fn is_spelled(digits: &[u8]) -> bool
+    ensures { λ r. ⌜ r ≡ spelled (now (digits .entry)) ⌝ }
+{
+    !digits.is_empty() && digits.len() <= 10 && (digits[0] != b'0' || digits.len() == 1)
+}
+
 // The number that is written at `at`, and where it ends.
 fn number(text: &[u8], at: usize) -> Option<(u64, usize)>
     requires { ⌜ at ≤ length (now text) ⌝ }
@@ -40,10 +47,7 @@ fn number(text: &[u8], at: usize) -> Option<(u64, usize)>
 {
     let end = digits_end(text, at);
     let digits = &text[at..end];
-    if digits.is_empty() || digits.len() > 10 {
-        return None;
-    }
-    if digits[0] == b'0' && digits.len() > 1 {
+    if !is_spelled(digits) {
         return None;
     }
     Some((value_of(digits), end))

@@ -1,5 +1,9 @@
 // Reads a text into lists of records.
-ghost use Rattle.records.specs.Faults.{told};
+ghost use Prim.Native.Nat.{_<_, _≤_};
+ghost use lib.ListN.{length};
+ghost use mathlib.Core.Path.{_≡_};
+ghost use Rattle.records.specs.declared.fault.Layer.the-variants.{Table};
+ghost use Rattle.records.specs.Faults.{refusal, told};
 ghost use Rattle.records.specs.Rules.{AllCalled};
 ghost use Rattle.std.specs.Results.{Cases};
 ghost use Rattle.texts.specs.Contents.{SameLists, Within, contents, front};
@@ -39,6 +43,16 @@ fn read_lines(text: &[u8], lists: &mut Lists) -> Result<Counts, Fault>
     Ok(counts)
 }
 
+// Refuses a text that is too long.
+fn check_length(text: &[u8]) -> Result<(), Fault>
+    ensures { λ r. ⌜ Cases r (λ _. length (now (text .entry)) ≤ 65536) (λ fault. (65536 < length (now (text .entry))) × (told fault ≡ refusal 3 Table 65536)) ⌝ }
+{
+    if text.len() > 65536 {
+        return Err(Fault::Limit(65536));
+    }
+    Ok(())
+}
+
 // Refuses a text whose nodes call a definition that is not there, at the line of the lowest such node.
 fn check_calls(text: &[u8], lists: &Lists, counts: Counts) -> Result<(), Fault>
     requires { ⌜ Within counts (contents (now lists)) ⌝ }
@@ -58,9 +72,7 @@ pub fn read(text: &[u8], lists: &mut Lists) -> Result<Counts, Fault>
     ensures only { λ r. ⌜ OnlyOutcome (now (text .entry)) (contents (now (lists .entry))) (contents (now (lists .exit))) r ⌝ }
     ensures accepts { λ r. ⌜ Accepts (now (text .entry)) (contents (now (lists .entry))) (contents (now (lists .exit))) r ⌝ }
 {
-    if text.len() > 65536 {
-        return Err(Fault::Limit(65536));
-    }
+    check_length(text)?;
     let counts = read_lines(text, lists)?;
     check_calls(text, lists, counts)?;
     Ok(counts)

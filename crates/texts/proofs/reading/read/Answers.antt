@@ -9,26 +9,29 @@ use Rattle.texts.proofs.OneWay.{only, uncalled}
 use Rattle.texts.proofs.Turns.{same-none}
 use Rattle.texts.proofs.reading.read.Needs as need
 
-pub returns-then-text-gt65536 : need.returns-then-text-gt65536
-returns-then-text-gt65536 c =
-    let o = Outcome.too-long (c .if-text-gt65536 .taken) refl refl in
+pub returns-in-Break-check-length : need.returns-in-Break-check-length
+returns-in-Break-check-length c =
+    let p = err-from-errBy (c .from-residual .result) (c .from-residual .ensures .1) in
+    let long = c .in-Break-check-length .ensures tt in
+    let o : Outcome (c .args .text .now) (contents (c .args .lists .now)) (contents (c .args .lists .now)) (c .from-residual .result) =
+        rw (p .1, p .2) (Outcome.too-long (long .0) refl (long .1)) in
     record { same = same-none (c .args .lists .now); outcome = o; only = only o; accepts = accepts o }
 
 pub returns-in-Break-counts : need.returns-in-Break-counts
 returns-in-Break-counts c =
-    let p = err-from-errBy (c .from-residual .result) (c .from-residual .ensures .1) in
-    let o : Outcome (c .args .text .now) (contents (c .args .lists .now)) (contents (c .read-lines .last .lists)) (c .from-residual .result) =
-    rw (p .1, p .2) (Outcome.broken-line (c .if-text-gt65536 .left) (c .in-Break-counts .ensures tt .reads)) in
+    let p = err-from-errBy (c .from-residual-in-Break-counts .result) (c .from-residual-in-Break-counts .ensures .1) in
+    let o : Outcome (c .args .text .now) (contents (c .args .lists .now)) (contents (c .read-lines .last .lists)) (c .from-residual-in-Break-counts .result) =
+    rw (p .1, p .2) (Outcome.broken-line (c .in-Continue-check-length .ensures tt) (c .in-Break-counts .ensures tt .reads)) in
     record { same = c .in-Break-counts .ensures tt .same; outcome = o; only = only o; accepts = accepts o }
 
 pub returns-in-Break-check-calls : need.returns-in-Break-check-calls
 returns-in-Break-check-calls c =
     let p = err-from-errBy (c .from-residual-in-Break-check-calls .result) (c .from-residual-in-Break-check-calls .ensures .1) in
     let o : Outcome (c .args .text .now) (contents (c .args .lists .now)) (contents (c .read-lines .last .lists)) (c .from-residual-in-Break-check-calls .result) =
-    rw (p .1, p .2) (uncalled (c .if-text-gt65536 .left) (c .in-Continue-counts .ensures tt .reads) (c .in-Break-check-calls .ensures tt)) in
+    rw (p .1, p .2) (uncalled (c .in-Continue-check-length .ensures tt) (c .in-Continue-counts .ensures tt .reads) (c .in-Break-check-calls .ensures tt)) in
     record { same = c .in-Continue-counts .ensures tt .same; outcome = o; only = only o; accepts = accepts o }
 
 pub returns : need.returns
 returns c =
-    let o = Outcome.accepted (c .if-text-gt65536 .left) (c .in-Continue-counts .ensures tt .reads) (c .in-Continue-check-calls .ensures tt) in
+    let o = Outcome.accepted (c .in-Continue-check-length .ensures tt) (c .in-Continue-counts .ensures tt .reads) (c .in-Continue-check-calls .ensures tt) in
     record { same = c .in-Continue-counts .ensures tt .same; outcome = o; only = only o; accepts = accepts o }
