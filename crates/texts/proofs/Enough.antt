@@ -138,8 +138,8 @@ never-short {text} {after} fault o seven = by o refl
         let moved = subst (λ f. Refused text blank after (told f)) same r in
         ⊎-elim (λ form. apart 1 7 (told fault) InLine (moved .place) (form .0) seven (λ h. omega arith))
         (λ offence.
-            let number : offence .number ≡ 7 = sym (ap (λ (y : Refusal). y .number) (offence .is)) ∙ seven in
-            not-seven _ (offence .line) (fitting (moved .read .passed)) (offence .rule ∙ ap (λ n. Some n) number))
+        let number : offence .number ≡ 7 = sym (ap (λ (y : Refusal). y .number) (offence .is)) ∙ seven in
+        not-seven _ (offence .line) (fitting (moved .read .passed)) (offence .rule ∙ ap (λ n. Some n) number))
         (moved .breaks)
     by (Outcome.undefined-call {fault = other} {place = place} _ _ _ _ is) e =
         let same : other ≡ fault = cc in

@@ -79,9 +79,9 @@ module _ {text : List ℕ} {at end : ℕ} (run : Run text at end) where
   none-spelled e =
       ⊎-elim (λ empty. none-empty (eqb-true (length part) 0 (not-false (eqb (length part) 0) empty)))
       (λ others.
-          ⊎-elim (λ long. none-long (leb-false (length part) 10 long))
-          (λ lead. let both = or-parts (not (eqb (getD part 0 0) 48)) _ lead in none-zero (eqb-true (getD part 0 0) 48 (not-false (eqb (getD part 0 0) 48) (both .0))) (eqb-false (length part) 1 (both .1)))
-          (and-cases (leb (length part) 10) _ others))
+      ⊎-elim (λ long. none-long (leb-false (length part) 10 long))
+      (λ lead. let both = or-parts (not (eqb (getD part 0 0) 48)) _ lead in none-zero (eqb-true (getD part 0 0) 48 (not-false (eqb (getD part 0 0) 48) (both .0))) (eqb-false (length part) 1 (both .1)))
+      (and-cases (leb (length part) 10) _ others))
       (and-cases (not (eqb (length part) 0)) _ e)
 
   module _ (good : spelled part ≡ true) where

@@ -19,7 +19,7 @@ fn is_node(n: u64, line: Line) -> bool
 }
 
 // The place of the line of node n, in a text that has it: walks the text again.
-pub fn node_place(text: &[u8], n: u64) -> usize
+pub(crate) fn node_place(text: &[u8], n: u64) -> usize
     ensures { λ r. ⌜ ((room : Room) (rs : Records) → Passed room (now (text .entry)) (length (now (text .entry))) rs → n < length (rs .nodes) → NodeAt room (now (text .entry)) n r) ⌝ }
 {
     let mut at = 0;

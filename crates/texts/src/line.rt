@@ -146,7 +146,7 @@ fn tariff_line(text: &[u8], at: usize) -> Option<(Line, usize)>
 }
 
 // The line that begins at `at`, and where it ends.
-pub fn line_at(text: &[u8], at: usize) -> Option<(Line, usize)>
+pub(crate) fn line_at(text: &[u8], at: usize) -> Option<(Line, usize)>
     requires { ⌜ at ≤ length (now text) ⌝ }
     ensures { λ r. ⌜ BySome r (NoLine (now (text .entry)) at) (λ p. LineAt (now (text .entry)) at (p .0) (p .1)) ⌝ }
 {

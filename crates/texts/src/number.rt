@@ -54,7 +54,7 @@ fn number(text: &[u8], at: usize) -> Option<(u64, usize)>
 }
 
 // Where the word ends, if it stands at `at`.
-pub fn word(text: &[u8], at: usize, word: &[u8]) -> Option<usize>
+pub(crate) fn word(text: &[u8], at: usize, word: &[u8]) -> Option<usize>
     requires { ⌜ at ≤ length (now text) ⌝ }
     ensures { λ r. ⌜ BySome r (NoWord (now (text .entry)) at (now (word .entry))) (λ end. Stands (now (text .entry)) at (now (word .entry)) end) ⌝ }
 {
@@ -66,7 +66,7 @@ pub fn word(text: &[u8], at: usize, word: &[u8]) -> Option<usize>
 }
 
 // The number behind the key that stands at `at`, and where it ends.
-pub fn field(text: &[u8], at: usize, key: &[u8]) -> Option<(u64, usize)>
+pub(crate) fn field(text: &[u8], at: usize, key: &[u8]) -> Option<(u64, usize)>
     requires { ⌜ at ≤ length (now text) ⌝ }
     ensures { λ r. ⌜ BySome r (NoField (now (text .entry)) at (now (key .entry))) (λ p. Field (now (text .entry)) at (now (key .entry)) (p .0) (p .1)) ⌝ }
 {
@@ -75,7 +75,7 @@ pub fn field(text: &[u8], at: usize, key: &[u8]) -> Option<(u64, usize)>
 }
 
 // The number behind the last key of a line, and where the line ends.
-pub fn last_field(text: &[u8], at: usize, key: &[u8]) -> Option<(u64, usize)>
+pub(crate) fn last_field(text: &[u8], at: usize, key: &[u8]) -> Option<(u64, usize)>
     requires { ⌜ at ≤ length (now text) ⌝ }
     ensures { λ r. ⌜ BySome r (NoLastField (now (text .entry)) at (now (key .entry))) (λ p. LastField (now (text .entry)) at (now (key .entry)) (p .0) (p .1)) ⌝ }
 {
@@ -85,7 +85,12 @@ pub fn last_field(text: &[u8], at: usize, key: &[u8]) -> Option<(u64, usize)>
 }
 
 // The numbers behind the last two keys of a line, and where the line ends.
-pub fn last_pair(text: &[u8], at: usize, first: &[u8], second: &[u8]) -> Option<(u64, u64, usize)>
+pub(crate) fn last_pair(
+    text: &[u8],
+    at: usize,
+    first: &[u8],
+    second: &[u8],
+) -> Option<(u64, u64, usize)>
     requires inside { ⌜ at ≤ length (now text) ⌝ }
     requires apart { ⌜ ((rest : List ℕ) → Past (now second ++ rest)) ⌝ }
     ensures { λ r. ⌜ BySome r (NoLastPair (now (text .entry)) at (now (first .entry)) (now (second .entry))) (λ p. LastPair (now (text .entry)) at (now (first .entry)) (now (second .entry)) (p .0) (p .1) (p .2)) ⌝ }

@@ -56,7 +56,12 @@ fn has_place(lists: &Lists, counts: Counts, line: Line) -> bool
 }
 
 // Refuses a line that breaks a rule after the records at the front of the lists, with the first such rule.
-pub fn check_line(lists: &Lists, counts: Counts, line: Line, place: usize) -> Result<(), Fault>
+pub(crate) fn check_line(
+    lists: &Lists,
+    counts: Counts,
+    line: Line,
+    place: usize,
+) -> Result<(), Fault>
     requires { ⌜ Within counts (contents (now lists)) ⌝ }
     ensures { λ r. ⌜ answer r ≡ at-place place (broken (sizes (contents (now (lists .entry)))) (front counts (contents (now (lists .entry)))) line) ⌝ }
 {
@@ -68,66 +73,44 @@ pub fn check_line(lists: &Lists, counts: Counts, line: Line, place: usize) -> Re
 }
 
 // Puts the record of the line behind those at the front of its list.
-pub fn store(lists: &mut Lists, counts: Counts, line: Line) -> Counts
+pub(crate) fn store(lists: &mut Lists, counts: Counts, line: Line) -> Counts
     requires within { ⌜ Within counts (contents (now lists)) ⌝ }
     requires room { ⌜ has-room (sizes (contents (now lists))) (front counts (contents (now lists))) line ≡ true ⌝ }
     ensures same { λ _. ⌜ SameLists (now (lists .exit)) (now (lists .entry)) ⌝ }
     ensures lists { λ _. ⌜ contents (now (lists .exit)) ≡ put counts line (contents (now (lists .entry))) ⌝ }
     ensures counts { λ r. ⌜ r ≡ counted counts line ⌝ }
 {
+    let mut next = counts;
     match line {
         Line::Policy(r) => {
             lists.policies[counts.policies] = r;
-            Counts {
-                policies: counts.policies + 1,
-                ..counts
-            }
+            next.policies += 1;
         }
         Line::Bad(r) => {
             lists.bads[counts.bads] = r;
-            Counts {
-                bads: counts.bads + 1,
-                ..counts
-            }
+            next.bads += 1;
         }
         Line::Edge(r) => {
             lists.edges[counts.edges] = r;
-            Counts {
-                edges: counts.edges + 1,
-                ..counts
-            }
+            next.edges += 1;
         }
-        Line::Quota(k) => Counts {
-            quota: Some(k),
-            ..counts
-        },
+        Line::Quota(k) => next.quota = Some(k),
         Line::Mark(r) => {
             lists.marks[counts.marks] = r;
-            Counts {
-                marks: counts.marks + 1,
-                ..counts
-            }
+            next.marks += 1;
         }
         Line::Node(r) => {
             lists.nodes[counts.nodes] = r;
-            Counts {
-                nodes: counts.nodes + 1,
-                ..counts
-            }
+            next.nodes += 1;
         }
         Line::Def(r) => {
             lists.defs[counts.defs] = r;
-            Counts {
-                defs: counts.defs + 1,
-                ..counts
-            }
+            next.defs += 1;
         }
         Line::Tariff(r) => {
             lists.tariffs[counts.tariffs] = r;
-            Counts {
-                tariffs: counts.tariffs + 1,
-                ..counts
-            }
+            next.tariffs += 1;
         }
     }
+    next
 }

@@ -1,11 +1,19 @@
 // Lists that are too short, and what a reading leaves in them.
-use records::record::{BadRecord, DefRecord, EdgeRecord, Kind, MarkRecord, NodeRecord, PolicyRecord, TariffRecord};
+use records::record::BadRecord;
+use records::record::DefRecord;
+use records::record::EdgeRecord;
+use records::record::Kind;
+use records::record::MarkRecord;
+use records::record::NodeRecord;
+use records::record::PolicyRecord;
+use records::record::TariffRecord;
 use std::test::*;
 use texts::lists::Lists;
 use texts::reading::read;
 
 // A text with two lines of each kind, but for the quota.
-const TWO: &str = "policy=0 states=2 start=0\npolicy=1 states=2 start=0\nbad=0 state=1\nbad=1 state=1\nedge=0 from=0 event=5 to=1\nedge=1 from=0 event=5 to=1\nquota=1\nmark=5\nmark=6\nnode=0 kind=z a=0 b=0\nnode=1 kind=z a=0 b=0\ndef=0 node=0\ndef=1 node=1\ntariff=5 cost=1\ntariff=6 cost=1\n";
+const TWO: &str =
+    "policy=0 states=2 start=0\npolicy=1 states=2 start=0\nbad=0 state=1\nbad=1 state=1\nedge=0 from=0 event=5 to=1\nedge=1 from=0 event=5 to=1\nquota=1\nmark=5\nmark=6\nnode=0 kind=z a=0 b=0\nnode=1 kind=z a=0 b=0\ndef=0 node=0\ndef=1 node=1\ntariff=5 cost=1\ntariff=6 cost=1\n";
 
 // How long each list is, from 0 to 2.
 #[derive(Clone, Copy)]
@@ -19,17 +27,47 @@ struct Sizes {
     tariffs: usize,
 }
 
-const ENOUGH: Sizes = Sizes { policies: 2, bads: 2, edges: 2, marks: 2, nodes: 2, defs: 2, tariffs: 2 };
+const ENOUGH: Sizes = Sizes {
+    policies: 2,
+    bads: 2,
+    edges: 2,
+    marks: 2,
+    nodes: 2,
+    defs: 2,
+    tariffs: 2,
+};
 
 // The number and place of the refusal that lists of these sizes give the text, or twice 0.
 fn played(sizes: Sizes) -> (u8, usize) {
     let (p, b, e) = (sizes.policies.min(2), sizes.bads.min(2), sizes.edges.min(2));
-    let (m, n, d, t) = (sizes.marks.min(2), sizes.nodes.min(2), sizes.defs.min(2), sizes.tariffs.min(2));
-    let mut policies = [PolicyRecord { policy: 9, states: 9, start: 9 }; 2];
-    let mut bads = [BadRecord { policy: 9, state: 9 }; 2];
-    let mut edges = [EdgeRecord { policy: 9, from: 9, event: 9, to: 9 }; 2];
+    let (m, n, d, t) = (
+        sizes.marks.min(2),
+        sizes.nodes.min(2),
+        sizes.defs.min(2),
+        sizes.tariffs.min(2),
+    );
+    let mut policies = [PolicyRecord {
+        policy: 9,
+        states: 9,
+        start: 9,
+    }; 2];
+    let mut bads = [BadRecord {
+        policy: 9,
+        state: 9,
+    }; 2];
+    let mut edges = [EdgeRecord {
+        policy: 9,
+        from: 9,
+        event: 9,
+        to: 9,
+    }; 2];
     let mut marks = [MarkRecord { event: 9 }; 2];
-    let mut nodes = [NodeRecord { node: 9, kind: Kind::Call, a: 9, b: 9 }; 2];
+    let mut nodes = [NodeRecord {
+        node: 9,
+        kind: Kind::Call,
+        a: 9,
+        b: 9,
+    }; 2];
     let mut defs = [DefRecord { def: 9, node: 9 }; 2];
     let mut tariffs = [TariffRecord { event: 9, cost: 9 }; 2];
     let mut lists = Lists {
@@ -50,20 +88,44 @@ fn played(sizes: Sizes) -> (u8, usize) {
 #[test]
 fn one_too_short() -> Result<(), Fail> {
     check_eq(played(ENOUGH), (0, 0))?;
-    check_eq(played(Sizes { policies: 1, ..ENOUGH }), (7, 26))?;
+    check_eq(
+        played(Sizes {
+            policies: 1,
+            ..ENOUGH
+        }),
+        (7, 26),
+    )?;
     check_eq(played(Sizes { bads: 1, ..ENOUGH }), (7, 66))?;
     check_eq(played(Sizes { edges: 1, ..ENOUGH }), (7, 107))?;
     check_eq(played(Sizes { marks: 1, ..ENOUGH }), (7, 149))?;
     check_eq(played(Sizes { nodes: 1, ..ENOUGH }), (7, 178))?;
     check_eq(played(Sizes { defs: 1, ..ENOUGH }), (7, 213))?;
-    check_eq(played(Sizes { tariffs: 1, ..ENOUGH }), (7, 242))
+    check_eq(
+        played(Sizes {
+            tariffs: 1,
+            ..ENOUGH
+        }),
+        (7, 242),
+    )
 }
 
 #[test]
 fn left_by_a_refusal() -> Result<(), Fail> {
-    let mut policies = [PolicyRecord { policy: 9, states: 9, start: 9 }; 2];
-    let mut bads = [BadRecord { policy: 9, state: 9 }; 2];
-    let mut nodes = [NodeRecord { node: 9, kind: Kind::Call, a: 9, b: 9 }; 2];
+    let mut policies = [PolicyRecord {
+        policy: 9,
+        states: 9,
+        start: 9,
+    }; 2];
+    let mut bads = [BadRecord {
+        policy: 9,
+        state: 9,
+    }; 2];
+    let mut nodes = [NodeRecord {
+        node: 9,
+        kind: Kind::Call,
+        a: 9,
+        b: 9,
+    }; 2];
     let mut lists = Lists {
         policies: &mut policies,
         bads: &mut bads,
@@ -73,13 +135,22 @@ fn left_by_a_refusal() -> Result<(), Fail> {
         defs: &mut [],
         tariffs: &mut [],
     };
-    let answer = match read(b"policy=0 states=3 start=1\nbad=0 state=2\nbad=0 state=1\n", &mut lists) {
+    let answer = match read(
+        b"policy=0 states=3 start=1\nbad=0 state=2\nbad=0 state=1\n",
+        &mut lists,
+    ) {
         Ok(_) => (0, 0),
         Err(fault) => (fault.number(), fault.place()),
     };
     check_eq(answer, (2, 40))?;
-    check_eq((policies[0].policy, policies[0].states, policies[0].start), (0, 3, 1))?;
-    check_eq((policies[1].policy, policies[1].states, policies[1].start), (9, 9, 9))?;
+    check_eq(
+        (policies[0].policy, policies[0].states, policies[0].start),
+        (0, 3, 1),
+    )?;
+    check_eq(
+        (policies[1].policy, policies[1].states, policies[1].start),
+        (9, 9, 9),
+    )?;
     check_eq((bads[0].policy, bads[0].state), (0, 2))?;
     check_eq((bads[1].policy, bads[1].state), (9, 9))?;
     check_eq((nodes[0].node, nodes[0].a, nodes[0].b), (9, 9, 9))

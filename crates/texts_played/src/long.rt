@@ -21,10 +21,18 @@ fn edges(heap: Global) -> Result<String, Fail> {
 #[test]
 fn the_513th_edge(rt: LibcRuntime) -> Result<(), Fail> {
     let mut text = edges(rt.alloc())?;
-    play(rt.alloc(), &text, "accepted policies=1 bads=0 edges=512 quota=none marks=0 nodes=0 defs=0 tariffs=0\n")?;
+    play(
+        rt.alloc(),
+        &text,
+        "accepted policies=1 bads=0 edges=512 quota=none marks=0 nodes=0 defs=0 tariffs=0\n",
+    )?;
     let place = text.len();
     text.push_str("edge=0 from=7 event=64 to=7\n")?;
-    play(rt.alloc(), &text, format!(rt.alloc(), "refused=3 layer=table place={place}\n")?.as_str())
+    play(
+        rt.alloc(),
+        &text,
+        format!(rt.alloc(), "refused=3 layer=table place={place}\n")?.as_str(),
+    )
 }
 
 // So many empty nodes, and so many definitions of the first.
@@ -42,19 +50,35 @@ fn table(heap: Global, nodes: u8, defs: u8) -> Result<String, Fail> {
 #[test]
 fn the_129th_node(rt: LibcRuntime) -> Result<(), Fail> {
     let mut text = table(rt.alloc(), 128, 0)?;
-    play(rt.alloc(), &text, "accepted policies=0 bads=0 edges=0 quota=none marks=0 nodes=128 defs=0 tariffs=0\n")?;
+    play(
+        rt.alloc(),
+        &text,
+        "accepted policies=0 bads=0 edges=0 quota=none marks=0 nodes=128 defs=0 tariffs=0\n",
+    )?;
     let place = text.len();
     text.push_str("node=128 kind=z a=0 b=0\n")?;
-    play(rt.alloc(), &text, format!(rt.alloc(), "refused=3 layer=table place={place}\n")?.as_str())
+    play(
+        rt.alloc(),
+        &text,
+        format!(rt.alloc(), "refused=3 layer=table place={place}\n")?.as_str(),
+    )
 }
 
 #[test]
 fn the_33rd_definition(rt: LibcRuntime) -> Result<(), Fail> {
     let mut text = table(rt.alloc(), 1, 32)?;
-    play(rt.alloc(), &text, "accepted policies=0 bads=0 edges=0 quota=none marks=0 nodes=1 defs=32 tariffs=0\n")?;
+    play(
+        rt.alloc(),
+        &text,
+        "accepted policies=0 bads=0 edges=0 quota=none marks=0 nodes=1 defs=32 tariffs=0\n",
+    )?;
     let place = text.len();
     text.push_str("def=32 node=0\n")?;
-    play(rt.alloc(), &text, format!(rt.alloc(), "refused=3 layer=table place={place}\n")?.as_str())
+    play(
+        rt.alloc(),
+        &text,
+        format!(rt.alloc(), "refused=3 layer=table place={place}\n")?.as_str(),
+    )
 }
 
 #[test]
@@ -68,7 +92,11 @@ fn the_65537th_byte(rt: LibcRuntime) -> Result<(), Fail> {
         }
     }
     check_eq(text.len(), 65536)?;
-    play(rt.alloc(), &text, format!(rt.alloc(), "refused=1 layer=line place={place}\n")?.as_str())?;
+    play(
+        rt.alloc(),
+        &text,
+        format!(rt.alloc(), "refused=1 layer=line place={place}\n")?.as_str(),
+    )?;
     text.push('9')?;
     play(rt.alloc(), &text, "refused=3 layer=table place=65536\n")
 }

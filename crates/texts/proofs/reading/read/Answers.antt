@@ -14,7 +14,7 @@ returns-in-Break-check-length c =
     let p = err-from-errBy (c .from-residual .result) (c .from-residual .ensures .1) in
     let long = c .in-Break-check-length .ensures tt in
     let o : Outcome (c .args .text .now) (contents (c .args .lists .now)) (contents (c .args .lists .now)) (c .from-residual .result) =
-        rw (p .1, p .2) (Outcome.too-long (long .0) refl (long .1)) in
+    rw (p .1, p .2) (Outcome.too-long (long .0) refl (long .1)) in
     record { same = same-none (c .args .lists .now); outcome = o; only = only o; accepts = accepts o }
 
 pub returns-in-Break-counts : need.returns-in-Break-counts
