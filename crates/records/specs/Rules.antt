@@ -83,18 +83,21 @@ earlier-mark x y = ltb (x .event) (y .event)
 abbrev pub earlier-tariff : TariffRecord → TariffRecord → Bool
 earlier-tariff x y = ltb (x .event) (y .event)
 
--- the record comes after the last of these
+-- the record comes after the last of these, if there is one
+abbrev pub rises : {X : Type 0} → (X → X → Bool) → X → List X → X → Bool
+rises earlier none xs r = eqb (length xs) 0 || earlier (getD xs (length xs - 1) none) r
+
 abbrev pub rises-bad : List BadRecord → BadRecord → Bool
-rises-bad xs r = eqb (length xs) 0 || earlier-bad (getD xs (length xs - 1) (record { policy = 0; state = 0 })) r
+rises-bad = rises earlier-bad (record { policy = 0; state = 0 })
 
 abbrev pub rises-edge : List EdgeRecord → EdgeRecord → Bool
-rises-edge xs r = eqb (length xs) 0 || earlier-edge (getD xs (length xs - 1) (record { policy = 0; from = 0; event = 0; to = 0 })) r
+rises-edge = rises earlier-edge (record { policy = 0; from = 0; event = 0; to = 0 })
 
 abbrev pub rises-mark : List MarkRecord → MarkRecord → Bool
-rises-mark xs r = eqb (length xs) 0 || earlier-mark (getD xs (length xs - 1) (record { event = 0 })) r
+rises-mark = rises earlier-mark (record { event = 0 })
 
 abbrev pub rises-tariff : List TariffRecord → TariffRecord → Bool
-rises-tariff xs r = eqb (length xs) 0 || earlier-tariff (getD xs (length xs - 1) (record { event = 0; cost = 0 })) r
+rises-tariff = rises earlier-tariff (record { event = 0; cost = 0 })
 
 -- rule 2: kinds come in their order; policies, nodes and definitions count up from 0; bads, edges, marks and tariffs rise; one quota at most
 abbrev pub in-order : Records → Line → Bool

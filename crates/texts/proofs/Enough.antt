@@ -1,6 +1,6 @@
 -- Lists that are as long as their kinds have lines are never too short. Assumes nothing.
 use mathlib.Core.Path.{_≡_, refl, sym, ap, subst, _∙_}
-use mathlib.Core.Bool.{Bool, true, _||_}
+use mathlib.Core.Bool.{Bool, true}
 use mathlib.Core.Logic.{⊎-elim}
 use mathlib.Core.List.{List, [], _∷_, _++_}
 use Prim.Native.Nat.{ℕ, _+_, _-_, _*_, _≤_, _<_}
@@ -23,7 +23,7 @@ use Rattle.records.specs.declared.record.MarkRecord.{MarkRecord}
 use Rattle.records.specs.declared.record.TariffRecord.{TariffRecord}
 use Rattle.records.specs.declared.record.Line.{Line}
 use Rattle.records.specs.declared.record.Line.the-variants.{Policy, Bad, Edge, Quota, Mark, Node, Def, Tariff}
-use Rattle.records.specs.Rules.{Records, added, earlier-bad, no-defs, no-edges, no-bads, no-nodes, no-tariffs, rises-bad, rises-mark, rises-tariff}
+use Rattle.records.specs.Rules.{Records, added, earlier-bad, earlier-mark, earlier-tariff, no-defs, no-edges, no-bads, no-nodes, no-tariffs, rises, rises-bad, rises-mark, rises-tariff}
 use Rattle.texts.proofs.Broken.{breach-from, seven-is-room}
 use Rattle.texts.specs.Contents.{Contents, Room, broken, has-room, sizes}
 use Rattle.texts.specs.Readings.{OnlyOutcome, Outcome, Passed, Refused}
@@ -32,16 +32,13 @@ use Rattle.texts.specs.declared.lists.Counts.{Counts}
 
 -- records that rise by a key: whatever comes next has at least as large a key as there are records
 module _ {X : Type 0} (key : X → ℕ) (earlier : X → X → Bool) (none : X) where
-  abbrev rises : List X → X → Bool
-  rises xs r = eqb (length xs) 0 || earlier (getD xs (length xs - 1) none) r
-
   abbrev Packed : List X → Type 0
-  Packed xs = (r : X) → rises xs r ≡ true → length xs ≤ key r
+  Packed xs = (r : X) → rises earlier none xs r ≡ true → length xs ≤ key r
 
   packed-none : Packed []
   packed-none r e = omega arith
 
-  packed-more : (xs : List X) (x : X) → Packed xs → rises xs x ≡ true → ((r : X) → earlier x r ≡ true → key x < key r) → Packed (xs ++ x ∷ [])
+  packed-more : (xs : List X) (x : X) → Packed xs → rises earlier none xs x ≡ true → ((r : X) → earlier x r ≡ true → key x < key r) → Packed (xs ++ x ∷ [])
   packed-more xs x packed risen above r e =
       let long = length-push xs x in
       let last : getD (xs ++ x ∷ []) (length (xs ++ x ∷ []) - 1) none ≡ x = getD-push xs x none (length (xs ++ x ∷ []) - 1) (omega (arith, long)) in
@@ -82,7 +79,7 @@ fitting-more rs (Quota k) fit keeps = record { bads = fit .bads; marks = fit .ma
 fitting-more rs (Mark r) fit keeps =
     record {
       bads = fit .bads;
-      marks = packed-more (λ (m : MarkRecord). m .event) (λ x y. ltb (x .event) (y .event)) (record { event = 0 }) (rs .marks) r (fit .marks) (and-parts (no-nodes rs) _ (keeps .order) .1) (λ y e. ltb-true _ _ e);
+      marks = packed-more (λ (m : MarkRecord). m .event) earlier-mark (record { event = 0 }) (rs .marks) r (fit .marks) (and-parts (no-nodes rs) _ (keeps .order) .1) (λ y e. ltb-true _ _ e);
       tariffs = fit .tariffs;
     }
 fitting-more rs (Node r) fit keeps = record { bads = fit .bads; marks = fit .marks; tariffs = fit .tariffs }
@@ -91,7 +88,7 @@ fitting-more rs (Tariff r) fit keeps =
     record {
       bads = fit .bads;
       marks = fit .marks;
-      tariffs = packed-more (λ (t : TariffRecord). t .event) (λ x y. ltb (x .event) (y .event)) (record { event = 0; cost = 0 }) (rs .tariffs) r (fit .tariffs) (keeps .order) (λ y e. ltb-true _ _ e);
+      tariffs = packed-more (λ (t : TariffRecord). t .event) earlier-tariff (record { event = 0; cost = 0 }) (rs .tariffs) r (fit .tariffs) (keeps .order) (λ y e. ltb-true _ _ e);
     }
 
 fitting : {room : Room} {text : List ℕ} {at : ℕ} {rs : Records} → Passed room text at rs → Fitting rs
