@@ -87,16 +87,36 @@ fn broken_forms(rt: LibcRuntime) -> Result<(), Fail> {
     all_refused(rt.alloc(), "refused=1 layer=line", &cases)
 }
 
-// Number 2: kinds or numbers are out of order.
+// Number 2: the line's kind is out of order, or a second quota.
 #[test]
-fn out_of_order(rt: LibcRuntime) -> Result<(), Fail> {
+fn kinds_out_of_order(rt: LibcRuntime) -> Result<(), Fail> {
     let cases = [
-        ("policy=1 states=3 start=0\n", 0),
-        ("policy=0 states=3 start=0\npolicy=0 states=3 start=0\n", 26),
         (
             "policy=0 states=3 start=0\nbad=0 state=2\npolicy=1 states=3 start=0\n",
             40,
         ),
+        (
+            "policy=0 states=3 start=0\nedge=0 from=0 event=5 to=1\nbad=0 state=2\n",
+            53,
+        ),
+        ("quota=1\nquota=1\n", 8),
+        ("quota=1\nmark=1\nquota=1\n", 15),
+        ("node=0 kind=z a=0 b=0\nquota=1\n", 22),
+        (
+            "node=0 kind=z a=0 b=0\ndef=0 node=0\nnode=1 kind=z a=0 b=0\n",
+            35,
+        ),
+        ("node=0 kind=z a=0 b=0\ntariff=5 cost=1\ndef=0 node=0\n", 38),
+    ];
+    all_refused(rt.alloc(), "refused=2 layer=table", &cases)
+}
+
+// Number 2: the line's numbers are out of order.
+#[test]
+fn numbers_out_of_order(rt: LibcRuntime) -> Result<(), Fail> {
+    let cases = [
+        ("policy=1 states=3 start=0\n", 0),
+        ("policy=0 states=3 start=0\npolicy=0 states=3 start=0\n", 26),
         (
             "policy=0 states=3 start=0\nbad=0 state=2\nbad=0 state=2\n",
             40,
@@ -106,10 +126,6 @@ fn out_of_order(rt: LibcRuntime) -> Result<(), Fail> {
             40,
         ),
         (
-            "policy=0 states=3 start=0\nedge=0 from=0 event=5 to=1\nbad=0 state=2\n",
-            53,
-        ),
-        (
             "policy=0 states=3 start=0\nedge=0 from=0 event=5 to=1\nedge=0 from=0 event=5 to=2\n",
             53,
         ),
@@ -117,21 +133,13 @@ fn out_of_order(rt: LibcRuntime) -> Result<(), Fail> {
             "policy=0 states=3 start=0\nedge=0 from=1 event=5 to=1\nedge=0 from=0 event=6 to=2\n",
             53,
         ),
-        ("quota=1\nquota=1\n", 8),
-        ("quota=1\nmark=1\nquota=1\n", 15),
         ("quota=1\nmark=1\nmark=1\n", 15),
         ("quota=1\nmark=2\nmark=1\n", 15),
-        ("node=0 kind=z a=0 b=0\nquota=1\n", 22),
         ("node=0 kind=z a=0 b=0\nnode=0 kind=z a=0 b=0\n", 22),
         ("node=1 kind=z a=0 b=0\n", 0),
         ("node=0 kind=z a=0 b=0\ndef=1 node=0\n", 22),
-        (
-            "node=0 kind=z a=0 b=0\ndef=0 node=0\nnode=1 kind=z a=0 b=0\n",
-            35,
-        ),
         ("tariff=5 cost=1\ntariff=5 cost=2\n", 16),
         ("tariff=5 cost=1\ntariff=4 cost=2\n", 16),
-        ("node=0 kind=z a=0 b=0\ntariff=5 cost=1\ndef=0 node=0\n", 38),
     ];
     all_refused(rt.alloc(), "refused=2 layer=table", &cases)
 }

@@ -37,7 +37,50 @@ const ENOUGH: Sizes = Sizes {
     tariffs: 2,
 };
 
-// The number and place of the refusal that lists of these sizes give the text, or twice 0.
+// Records that no text has.
+const POLICY: PolicyRecord = PolicyRecord {
+    policy: 9,
+    states: 9,
+    start: 9,
+};
+
+const BAD: BadRecord = BadRecord {
+    policy: 9,
+    state: 9,
+};
+
+const EDGE: EdgeRecord = EdgeRecord {
+    policy: 9,
+    from: 9,
+    event: 9,
+    to: 9,
+};
+
+const MARK: MarkRecord = MarkRecord { event: 999 };
+
+const NODE: NodeRecord = NodeRecord {
+    node: 999,
+    kind: Kind::Call,
+    a: 9,
+    b: 9,
+};
+
+const DEF: DefRecord = DefRecord { def: 99, node: 9 };
+
+const TARIFF: TariffRecord = TariffRecord {
+    event: 999,
+    cost: 9,
+};
+
+// The number and place of the refusal of a reading, or twice 0.
+fn answer(text: &[u8], lists: &mut Lists) -> (u8, usize) {
+    match read(text, lists) {
+        Ok(_) => (0, 0),
+        Err(fault) => (fault.number(), fault.place()),
+    }
+}
+
+// The answer to the text that lists of these sizes give.
 fn played(sizes: Sizes) -> (u8, usize) {
     let (p, b, e) = (sizes.policies.min(2), sizes.bads.min(2), sizes.edges.min(2));
     let (m, n, d, t) = (
@@ -46,30 +89,13 @@ fn played(sizes: Sizes) -> (u8, usize) {
         sizes.defs.min(2),
         sizes.tariffs.min(2),
     );
-    let mut policies = [PolicyRecord {
-        policy: 9,
-        states: 9,
-        start: 9,
-    }; 2];
-    let mut bads = [BadRecord {
-        policy: 9,
-        state: 9,
-    }; 2];
-    let mut edges = [EdgeRecord {
-        policy: 9,
-        from: 9,
-        event: 9,
-        to: 9,
-    }; 2];
-    let mut marks = [MarkRecord { event: 9 }; 2];
-    let mut nodes = [NodeRecord {
-        node: 9,
-        kind: Kind::Call,
-        a: 9,
-        b: 9,
-    }; 2];
-    let mut defs = [DefRecord { def: 9, node: 9 }; 2];
-    let mut tariffs = [TariffRecord { event: 9, cost: 9 }; 2];
+    let (mut policies, mut bads, mut edges) = ([POLICY; 2], [BAD; 2], [EDGE; 2]);
+    let (mut marks, mut nodes, mut defs, mut tariffs) = (
+        [MARK; 2],
+        [NODE; 2],
+        [DEF; 2],
+        [TARIFF; 2],
+    );
     let mut lists = Lists {
         policies: &mut policies[0..p],
         bads: &mut bads[0..b],
@@ -79,10 +105,7 @@ fn played(sizes: Sizes) -> (u8, usize) {
         defs: &mut defs[0..d],
         tariffs: &mut tariffs[0..t],
     };
-    match read(TWO.as_bytes(), &mut lists) {
-        Ok(_) => (0, 0),
-        Err(fault) => (fault.number(), fault.place()),
-    }
+    answer(TWO.as_bytes(), &mut lists)
 }
 
 #[test]
@@ -111,21 +134,7 @@ fn one_too_short() -> Result<(), Fail> {
 
 #[test]
 fn left_by_a_refusal() -> Result<(), Fail> {
-    let mut policies = [PolicyRecord {
-        policy: 9,
-        states: 9,
-        start: 9,
-    }; 2];
-    let mut bads = [BadRecord {
-        policy: 9,
-        state: 9,
-    }; 2];
-    let mut nodes = [NodeRecord {
-        node: 9,
-        kind: Kind::Call,
-        a: 9,
-        b: 9,
-    }; 2];
+    let (mut policies, mut bads, mut nodes) = ([POLICY; 2], [BAD; 2], [NODE; 2]);
     let mut lists = Lists {
         policies: &mut policies,
         bads: &mut bads,
@@ -135,14 +144,8 @@ fn left_by_a_refusal() -> Result<(), Fail> {
         defs: &mut [],
         tariffs: &mut [],
     };
-    let answer = match read(
-        b"policy=0 states=3 start=1\nbad=0 state=2\nbad=0 state=1\n",
-        &mut lists,
-    ) {
-        Ok(_) => (0, 0),
-        Err(fault) => (fault.number(), fault.place()),
-    };
-    check_eq(answer, (2, 40))?;
+    let text = b"policy=0 states=3 start=1\nbad=0 state=2\nbad=0 state=1\n";
+    check_eq(answer(text, &mut lists), (2, 40))?;
     check_eq(
         (policies[0].policy, policies[0].states, policies[0].start),
         (0, 3, 1),
@@ -153,5 +156,5 @@ fn left_by_a_refusal() -> Result<(), Fail> {
     )?;
     check_eq((bads[0].policy, bads[0].state), (0, 2))?;
     check_eq((bads[1].policy, bads[1].state), (9, 9))?;
-    check_eq((nodes[0].node, nodes[0].a, nodes[0].b), (9, 9, 9))
+    check_eq((nodes[0].node, nodes[0].a, nodes[0].b), (999, 9, 9))
 }
