@@ -12,3 +12,4 @@ pub mod OneWay
 pub mod Whole
 pub mod Accepts
 pub mod Enough
+pub mod Refuses

@@ -90,7 +90,7 @@ module _ {room : Room} {text : List ℕ} where
     count-at x = sym (node-counts room (x .before) (x .node) (goes-on (x .passed) whole (x .found))) ∙ x .number
 
     -- the line of a node stands at one place
-    same-place : {n at place : ℕ} → NodeAt room text n at → NodeAt room text n place → at ≡ place
+    pub same-place : {n at place : ℕ} → NodeAt room text n at → NodeAt room text n place → at ≡ place
     same-place x y =
         ⊎-elim (λ on. no-further on (x .found) (count-at x ∙ sym (count-at y))) (λ on. sym (no-further on (y .found) (count-at y ∙ sym (count-at x)))) (linear room text (x .passed) (y .passed))
 
@@ -98,7 +98,7 @@ module _ {room : Room} {text : List ℕ} where
 pub called-not : (b : Bool) → b ≡ true → b ≡ false → ⊥
 called-not b e f = both-ways b f e
 
-same-uncalled : (nodes : List NodeRecord) (defs n m : ℕ) → FirstUncalled nodes defs n → FirstUncalled nodes defs m → n ≡ m
+pub same-uncalled : (nodes : List NodeRecord) (defs n m : ℕ) → FirstUncalled nodes defs n → FirstUncalled nodes defs m → n ≡ m
 same-uncalled nodes defs n m x y =
     ⊎-elim (λ lt. absurd (called-not (call-there defs (node-at nodes n)) (y .below n lt) (x .here)))
     (λ le. ⊎-elim (λ lt. absurd (called-not (call-there defs (node-at nodes m)) (x .below m lt) (y .here))) (λ ge. omega arith) (order m n))

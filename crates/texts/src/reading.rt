@@ -8,7 +8,7 @@ ghost use Rattle.records.specs.Rules.{AllCalled};
 ghost use Rattle.std.specs.Results.{Cases};
 ghost use Rattle.texts.specs.Contents.{SameLists, Within, contents, front};
 ghost use Rattle.texts.specs.Readings.{LinesRead, OnlyOutcome, Outcome, UndefinedCall};
-ghost use Rattle.texts.specs.Whole.{Accepts};
+ghost use Rattle.texts.specs.Whole.{Accepts, Refuses};
 use crate::calls::node_place;
 use crate::line::line_at;
 use crate::lists::Counts;
@@ -71,6 +71,7 @@ pub fn read(text: &[u8], lists: &mut Lists) -> Result<Counts, Fault>
     ensures outcome { λ r. ⌜ Outcome (now (text .entry)) (contents (now (lists .entry))) (contents (now (lists .exit))) r ⌝ }
     ensures only { λ r. ⌜ OnlyOutcome (now (text .entry)) (contents (now (lists .entry))) (contents (now (lists .exit))) r ⌝ }
     ensures accepts { λ r. ⌜ Accepts (now (text .entry)) (contents (now (lists .entry))) (contents (now (lists .exit))) r ⌝ }
+    ensures refuses { λ r. ⌜ Refuses (now (text .entry)) (contents (now (lists .entry))) r ⌝ }
 {
     check_length(text)?;
     let counts = read_lines(text, lists)?;
