@@ -1,8 +1,8 @@
 -- Runs of a board's automata. Assumes nothing.
-use Rattle.std.proofs.Common.{◌≡◌, ℕ, ◌+◌, ◌<◌, Bool, List, [], ◌∷◌, ◌++◌, length, get_or, take, Some, sym, refl, ap, ◌∙◌, arith}
+use Rattle.std.proofs.Common.{◌≡◌, ℕ, ◌+◌, ◌<◌, Bool, List, [], ◌∷◌, ◌++◌, length, get_or, take, Some, sym, ap, ◌∙◌, arith}
 use Rattle.std.proofs.lemmas.List.{take_more}
 use Rattle.histories.specs.Automata.{Automaton, run}
-use Rattle.histories.proofs.Counts.{run-nil, run-push}
+use Rattle.histories.proofs.Counts.{run-push}
 use Rattle.boards.specs.Meanings.{Meaning, Closed, Sound, start_of, step_of}
 
 -- what a step that answered says

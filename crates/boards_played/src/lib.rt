@@ -1,4 +1,6 @@
 // Plays boards and scales.
+#![tactic(auto)]
+
 #[cfg(test)]
 mod layers;
 #[cfg(test)]

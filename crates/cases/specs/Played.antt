@@ -1,8 +1,5 @@
 -- The table of played cases. Assumes nothing.
-use Rattle.std.specs.Prelude.{ℕ, Bool, true, false, List, [], ◌∷◌, replicate, slice_set}
-use Rattle.records.specs.declared.record.PolicyRecord.{PolicyRecord}
-use Rattle.records.specs.declared.record.BadRecord.{BadRecord}
-use Rattle.records.specs.declared.record.EdgeRecord.{EdgeRecord}
+use Rattle.std.specs.Prelude.{ℕ, true, false, List, [], ◌∷◌, replicate, slice_set}
 use Rattle.jobs.specs.declared.node.Node.{Node}
 use Rattle.jobs.specs.declared.node.Node.TheVariants.{Empty, Event, Seq, Choice, Frame, Call}
 use Rattle.jobs.specs.Placed.{Sound}

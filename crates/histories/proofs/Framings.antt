@@ -1,5 +1,5 @@
 -- What is left open inside and around a framing, and behind a complete history. Assumes nothing.
-use Rattle.std.proofs.Common.{◌≡◌, ℕ, ◌+◌, ◌<◌, ◌≤◌, true, false, cond, eqb, List, [], ◌∷◌, ◌++◌, sym, ap, ◌∙◌, arith}
+use Rattle.std.proofs.Common.{◌≡◌, ℕ, ◌<◌, ◌≤◌, true, false, cond, eqb, List, [], ◌∷◌, ◌++◌, sym, ap, ◌∙◌, arith}
 use Rattle.jobs.specs.declared.node.Node.{Node}
 use Rattle.jobs.specs.Placed.{Sound}
 use Rattle.histories.specs.Symbols.{opening, closing, occurrences, events, LeavesOpen}

@@ -1,5 +1,5 @@
 -- Laws of histories. Assumes nothing.
-use Rattle.std.specs.Prelude.{◌≡◌, ℕ, ◌<◌, ◌≤◌, List, [], ◌∷◌, ◌++◌}
+use Rattle.std.specs.Prelude.{◌≡◌, ℕ, ◌<◌, ◌≤◌, List, ◌++◌}
 use Rattle.jobs.specs.declared.node.Node.{Node}
 use Rattle.jobs.specs.Placed.{Sound}
 use Rattle.histories.specs.Symbols.{opening, closing, occurrences}

@@ -1,4 +1,6 @@
 // Plays some makings of tables.
+#![tactic(auto)]
+
 ghost use Rattle.std.specs.Prelude.{◌≡◌, Some};
 ghost use Rattle.std.specs.Option.{option_map};
 ghost use Rattle.records.specs.declared.fault.Layer.TheVariants as layer;

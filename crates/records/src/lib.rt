@@ -1,4 +1,6 @@
 // What the lines of a text say, and the rules that they keep.
+#![tactic(auto)]
+
 pub mod display;
 pub mod fault;
 pub mod laws;

@@ -1,5 +1,5 @@
 -- What Sum and Peak mean. Assumes nothing.
-use Rattle.std.specs.Prelude.{ℕ, ◌+◌, ◌≤◌, min, max, nat_le}
+use Rattle.std.specs.Prelude.{ℕ, ◌+◌, min, max, nat_le}
 use Rattle.std.proofs.Math.Nat.{min-le_right}
 use Rattle.scales.specs.declared.efforts.Sum.{Sum}
 use Rattle.scales.specs.declared.efforts.Peak.{Peak}

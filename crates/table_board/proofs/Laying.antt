@@ -1,15 +1,15 @@
 -- Heads and rows that records say make a board. Assumes nothing.
-use Rattle.std.proofs.Common.{◌≡◌, ℕ, zero, suc, ◌+◌, ◌*◌, ◌/◌, ◌%◌, ◌<◌, ◌≤◌, Bool, true, false, cond, ◌&&◌, eqb, ◌⊎◌, List, [], ◌∷◌, ◌++◌, map, length, get_or, Some, None, Option, unwrap_or, sym, refl, ap, ◌∙◌, subst, inl, inr, ⊎_elim, arith, length-append, below_more}
+use Rattle.std.proofs.Common.{◌≡◌, ℕ, suc, ◌+◌, ◌*◌, ◌/◌, ◌%◌, ◌<◌, ◌≤◌, Bool, true, false, cond, ◌&&◌, eqb, List, [], ◌∷◌, ◌++◌, map, length, get_or, Some, None, Option, unwrap_or, sym, refl, ap, ◌∙◌, subst, ⊎_elim, arith, length-append, below_more}
 use Rattle.std.proofs.lemmas.List.{get_or_append_left, get_or-map, get_or_past, get_or_push, length-map}
 use Rattle.std.proofs.lemmas.Bool.{and_parts, cases_lt, eqb-true}
 use Rattle.records.specs.declared.record.PolicyRecord.{PolicyRecord}
 use Rattle.records.specs.declared.record.BadRecord.{BadRecord}
 use Rattle.records.specs.declared.record.EdgeRecord.{EdgeRecord}
-use Rattle.boards.specs.Meanings.{Same, SameAutomaton}
-use Rattle.boards.specs.Tables.{bad_in, edge_to, is_edge, policy_at, policy_of, tabled}
+use Rattle.boards.specs.Meanings.{Same}
+use Rattle.boards.specs.Tables.{edge_to, is_edge, policy_at, tabled}
 use Rattle.table_board.specs.declared.rows.Head.{Head}
 use Rattle.table_board.specs.declared.rows.Row.{Row}
-use Rattle.table_board.specs.Rows.{automaton_at, head_at, laid_out, row_at, target}
+use Rattle.table_board.specs.Rows.{head_at, laid_out, row_at, target}
 use Rattle.table_board.specs.Making.{Kept, edge_at}
 use Rattle.table_board.specs.Laid.{RowSays, RowsSay, head_of}
 use Rattle.table_board.proofs.Fits.{each_edge, each_policy, few_policies}

@@ -1,4 +1,6 @@
 // The table board, made from records of policies, bads and edges.
+#![tactic(auto)]
+
 pub mod laws;
 pub mod making;
 pub mod rows;

@@ -1,4 +1,6 @@
 // Reads a text from standard input, and prints how many records it has or why it is refused.
+#![tactic(auto)]
+
 use std::io::Read;
 use texts::report::report;
 

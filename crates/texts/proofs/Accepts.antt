@@ -1,12 +1,12 @@
 -- A text is accepted exactly with the records whose lines it is. Assumes nothing.
-use Rattle.std.proofs.Common.{◌≡◌, ℕ, ◌<◌, ◌≤◌, List, length, take, Some, None, Ok, Err, Option, Result, sym, refl, ap, ◌∙◌, subst, arith}
+use Rattle.std.proofs.Common.{◌≡◌, ℕ, List, length, take, Some, None, Ok, Err, Result, sym, refl, ap, ◌∙◌, subst, arith}
 use Rattle.std.proofs.lemmas.List.{length-take-le}
 use Rattle.records.proofs.Kept.{some_none}
 use Rattle.records.specs.declared.fault.Fault.{Fault}
-use Rattle.records.specs.Faults.{Refusal, told}
+use Rattle.records.specs.Faults.{Refusal}
 use Rattle.records.specs.Rules.{AllCalled, FirstUncalled, Records, call_there, node_at}
 use Rattle.texts.proofs.OneWay.{called_not}
-use Rattle.texts.proofs.Outcomes.{Ends, one_outcome}
+use Rattle.texts.proofs.Outcomes.{one_outcome}
 use Rattle.texts.proofs.Whole.{read_is_written, written_is_read}
 use Rattle.texts.specs.Contents.{Contents, front, sizes}
 use Rattle.texts.specs.Readings.{Outcome, ReadTo, Refused}

@@ -1,5 +1,5 @@
 -- A text begins with the line of one record only. Assumes nothing.
-use Rattle.std.proofs.Common.{◌≡◌, ℕ, zero, suc, ◌<◌, ◌≤◌, cond, eqb, List, [], ◌∷◌, ◌++◌, length, get_or, drop, codes, sym, refl, ap, ◌∙◌, subst, arith, length-drop}
+use Rattle.std.proofs.Common.{◌≡◌, ℕ, zero, suc, cond, eqb, List, [], ◌∷◌, ◌++◌, length, get_or, drop, codes, sym, refl, ap, ◌∙◌, arith, length-drop}
 use Rattle.std.proofs.lemmas.List.{append_cancel_left}
 use Rattle.records.specs.declared.record.Kind.{Kind}
 use Rattle.records.specs.declared.record.Kind.TheVariants.{Empty}
@@ -9,7 +9,7 @@ use Rattle.texts.proofs.Fields.{space, line_end}
 use Rattle.texts.proofs.Lines.{same_letter}
 use Rattle.texts.proofs.Numbers.{same_number}
 use Rattle.texts.specs.Fields.{Small, Past, field}
-use Rattle.texts.specs.Lines.{Formed, LineAt, letter_of, line_of}
+use Rattle.texts.specs.Lines.{Formed, LineAt, line_of}
 
 -- a line is known by its first byte, its kind of node and its numbers
 abbrev byte_of : Line → ℕ

@@ -1,5 +1,5 @@
 -- The first rule that a line breaks. Assumes nothing.
-use Rattle.std.proofs.Common.{◌≡◌, ℕ, ◌≤◌, Bool, true, false, cond, Some, None, Option, sym, refl, ap, ◌∙◌, subst, arith}
+use Rattle.std.proofs.Common.{◌≡◌, ℕ, ◌≤◌, Bool, true, false, cond, Some, None, Option, sym, refl, ap, ◌∙◌, arith}
 use Rattle.records.specs.declared.fault.Layer.TheVariants.{Table}
 use Rattle.records.specs.declared.record.Line.{Line}
 use Rattle.records.proofs.Kept.{some_none}

@@ -1,5 +1,5 @@
 -- A text has one outcome. Assumes nothing.
-use Rattle.std.proofs.Common.{◌≡◌, ℕ, ◌+◌, ◌<◌, ◌≤◌, Bool, true, false, ◌⊎◌, List, ◌++◌, length, take, drop, Some, None, Ok, Err, Option, Result, sym, refl, ap, ◌∙◌, subst, inl, inr, ⊎_elim, arith}
+use Rattle.std.proofs.Common.{◌≡◌, ℕ, ◌≤◌, Bool, true, false, List, ◌++◌, length, take, drop, Some, None, Ok, Err, Option, Result, sym, refl, ap, ◌∙◌, subst, ⊎_elim, arith}
 use borrow.Author.Tests.{both_ways}
 use Rattle.std.proofs.lemmas.List.{length_push, length-take-le, take-append-drop}
 use Rattle.std.proofs.str.Laws.{order}
@@ -15,7 +15,7 @@ use Rattle.records.specs.Rules.{AllCalled, FirstUncalled, Records, added, call_t
 use Rattle.texts.proofs.Apart.{same_line}
 use Rattle.texts.proofs.Outcomes.{Ends, Onward, linear, one_outcome}
 use Rattle.texts.proofs.Places.{goes_on, node_counts}
-use Rattle.texts.specs.Contents.{Contents, Room, broken, front, sizes}
+use Rattle.texts.specs.Contents.{Contents, Room, front, sizes}
 use Rattle.texts.specs.Lines.{LineAt}
 use Rattle.texts.specs.Readings.{NodeAt, OnlyOutcome, Outcome, Overwritten, Passed, ReadTo, Refused, UndefinedCall}
 use Rattle.texts.specs.declared.lists.Counts.{Counts}

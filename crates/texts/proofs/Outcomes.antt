@@ -1,5 +1,5 @@
 -- A text is read in one way. Assumes nothing.
-use Rattle.std.proofs.Common.{◌≡◌, ℕ, ◌<◌, ◌≤◌, ◌⊎◌, List, [], length, Some, None, Option, sym, refl, ap, ◌∙◌, subst, inl, inr, ⊎_elim, arith}
+use Rattle.std.proofs.Common.{◌≡◌, ℕ, ◌<◌, ◌⊎◌, List, length, Some, None, Option, sym, refl, ap, ◌∙◌, subst, inl, inr, ⊎_elim, arith}
 use Rattle.records.proofs.Kept.{some_none}
 use Rattle.records.specs.declared.fault.Layer.TheVariants.{Table}
 use Rattle.records.specs.declared.record.Line.{Line}
@@ -8,8 +8,8 @@ use Rattle.records.specs.Rules.{Records, added}
 use Rattle.texts.proofs.Apart.{same_line}
 use Rattle.texts.proofs.Lines.{line_advances}
 use Rattle.texts.specs.Contents.{Room, broken}
-use Rattle.texts.specs.Lines.{LineAt, NoLine}
-use Rattle.texts.specs.Readings.{Breaks, Offence, Passed, no_records}
+use Rattle.texts.specs.Lines.{LineAt}
+use Rattle.texts.specs.Readings.{Breaks, Passed, no_records}
 
 -- a reading ends: at the end of the text, or at a line that breaks a rule
 abbrev pub Ends : Room → List ℕ → ℕ → Records → Option Refusal → Type 0

@@ -1,13 +1,13 @@
 -- A text is refused where it breaks a rule, with that rule's number and place. Assumes nothing.
-use Rattle.std.proofs.Common.{◌≡◌, ℕ, ◌<◌, ◌≤◌, List, length, take, Some, None, Ok, Err, Option, Result, sym, refl, ap, ◌∙◌, subst, arith}
+use Rattle.std.proofs.Common.{◌≡◌, ℕ, ◌<◌, List, length, take, Some, None, Option, Result, sym, refl, ap, ◌∙◌, subst, arith}
 use Rattle.std.proofs.lemmas.List.{length-take-le}
 use Rattle.records.proofs.Kept.{some_none}
 use Rattle.records.specs.declared.fault.Fault.{Fault}
 use Rattle.records.specs.declared.fault.Layer.TheVariants.{Table}
-use Rattle.records.specs.Faults.{Refusal, answer, refusal, told}
-use Rattle.records.specs.Rules.{AllCalled, FirstUncalled, Records, call_there, node_at}
+use Rattle.records.specs.Faults.{Refusal, refusal}
+use Rattle.records.specs.Rules.{FirstUncalled, Records, call_there, node_at}
 use Rattle.texts.proofs.OneWay.{called_not, same_place, same_uncalled}
-use Rattle.texts.proofs.Outcomes.{Ends, one_outcome}
+use Rattle.texts.proofs.Outcomes.{one_outcome}
 use Rattle.texts.specs.Contents.{Contents, front, sizes}
 use Rattle.texts.specs.Readings.{Breaks, NodeAt, Outcome, Passed, ReadTo, Refused}
 use Rattle.texts.specs.Whole.{Refuses}

@@ -1,13 +1,12 @@
 -- The digits at a place of a text. Assumes nothing.
-use Rattle.std.proofs.Common.{◌≡◌, ℕ, ◌+◌, ◌-◌, ◌^◌, ◌<◌, ◌≤◌, true, false, not, ◌&&◌, ◌||◌, eqb, leb, ◌⊎◌, List, [], ◌∷◌, ◌++◌, length, get_or, take, drop, decimal, sym, refl, ap, ◌∙◌, subst, inl, inr, ⊎_elim, add-zero, arith, eqb-true, leb-false, leb-true}
+use Rattle.std.proofs.Common.{◌≡◌, ℕ, ◌+◌, ◌-◌, ◌^◌, ◌<◌, ◌≤◌, true, false, not, ◌&&◌, ◌||◌, eqb, leb, List, ◌++◌, length, get_or, take, drop, decimal, sym, ap, ◌∙◌, subst, ⊎_elim, add-zero, arith, eqb-true, leb-false, leb-true}
 use borrow.Author.Tests.{eqb-false, not-false, not-true}
 use Rattle.std.proofs.lemmas.Bool.{and_cases, and_parts, or_cases, or_parts}
 use Rattle.std.specs.Str.Parse.{digits_value, AllDigits as Digits}
 use Rattle.std.specs.Int.{IsInRange}
 use Rattle.std.proofs.lemmas.Fmt.{length-decimal-le, decimal_nonempty, first_decimal, decimal-digits_value}
-use Rattle.std.proofs.lemmas.Int.Digits.{digits_value_more}
 use Rattle.std.proofs.lemmas.List.{get_or-take, get_or-drop, length-take-le, length-drop, take-append-drop, drop-drop}
-use Rattle.std.proofs.lemmas.Str.Parse.{IsNumeralModel, numerals_by_value, tells_by_index, digits_value_short}
+use Rattle.std.proofs.lemmas.Str.Parse.{numerals_by_value, tells_by_index, digits_value_short}
 use Rattle.std.proofs.str.Laws.{order}
 use Rattle.records.specs.Written.{written}
 use Rattle.records.proofs.Numbers.{written_is}

@@ -1,12 +1,12 @@
 -- One line more of a reading. Assumes nothing.
-use Rattle.std.proofs.Common.{◌≡◌, ℕ, ◌+◌, ◌-◌, ◌<◌, ◌≤◌, true, ltb, List, [], ◌∷◌, ◌++◌, length, take, drop, set, Some, None, sym, refl, ap, ◌∙◌, subst, inl, inr, arith, ltb-true}
+use Rattle.std.proofs.Common.{◌≡◌, ℕ, ◌+◌, ◌<◌, true, ltb, List, [], ◌∷◌, ◌++◌, length, take, drop, set, Some, None, sym, refl, ap, ◌∙◌, subst, inr, arith, ltb-true}
 use Rattle.std.proofs.lemmas.List.{drop-drop, drop-set-lt, length-set, length-take-le, take_more_set}
 use Rattle.records.specs.declared.record.Line.{Line}
 use Rattle.records.specs.declared.record.Line.TheVariants.{Policy, Bad, Edge, Quota, Mark, Node, Def, Tariff}
 use Rattle.records.specs.Faults.{Refusal, at_place}
-use Rattle.records.specs.Rules.{Records, added}
+use Rattle.records.specs.Rules.{added}
 use Rattle.texts.proofs.Broken.{one_breach, room_from}
-use Rattle.texts.specs.Contents.{Contents, Room, SameLists, Within, broken, counted, front, has_room, put, sizes}
+use Rattle.texts.specs.Contents.{Contents, SameLists, Within, broken, counted, front, has_room, put, sizes}
 use Rattle.texts.specs.Lines.{LineAt}
 use Rattle.texts.specs.Readings.{Overwritten, Passed, ReadTo, Refused}
 use Rattle.texts.specs.declared.lists.Counts.{Counts}

@@ -1,5 +1,5 @@
 -- A text is read whole exactly when it is the lines of its records. Assumes nothing.
-use Rattle.std.proofs.Common.{◌≡◌, ℕ, ◌+◌, ◌<◌, ◌≤◌, Bool, true, false, not, ◌&&◌, eqb, List, [], ◌∷◌, ◌++◌, map, length, drop, is_some, Some, None, Option, sym, refl, ap, ◌∙◌, subst, append_assoc, append-nil, arith, eqb-true}
+use Rattle.std.proofs.Common.{◌≡◌, ℕ, ◌+◌, ◌≤◌, Bool, true, not, ◌&&◌, eqb, List, [], ◌∷◌, ◌++◌, map, length, drop, is_some, Some, None, Option, sym, refl, ap, ◌∙◌, subst, append_assoc, append-nil, arith, eqb-true}
 use lib.Seq.{drop-append_seam}
 use borrow.Author.Tests.{clash}
 use Rattle.std.proofs.lemmas.List.{drop_all, drop-drop, length-append, length-drop, map_push}
@@ -17,7 +17,7 @@ use Rattle.records.specs.declared.record.TariffRecord.{TariffRecord}
 use Rattle.records.specs.Rules.{Records, added, in_order, no_bads, no_defs, no_edges, no_marks, no_nodes, no_quota, no_tariffs}
 use Rattle.texts.proofs.Broken.{breach_from}
 use Rattle.texts.proofs.Outcomes.{Onward, from_begin}
-use Rattle.texts.specs.Contents.{Room, broken}
+use Rattle.texts.specs.Contents.{Room}
 use Rattle.texts.specs.Lines.{Formed, LineAt, line_of}
 use Rattle.texts.specs.Readings.{Passed, no_records}
 use Rattle.texts.specs.Whole.{Keeps, ReadAsWritten, Written, lines_of, quota_lines, text_of}

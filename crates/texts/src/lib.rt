@@ -1,4 +1,6 @@
 // Reads a text of records, line by line.
+#![tactic(auto)]
+
 mod calls;
 pub mod laws;
 mod line;

@@ -1,4 +1,6 @@
 // Plays texts.
+#![tactic(auto)]
+
 #[cfg(test)]
 mod lines;
 #[cfg(test)]

@@ -1,4 +1,4 @@
-use Rattle.std.proofs.Common.{sym, ap, ◌∙◌}
+use Rattle.std.proofs.Common.{sym, ◌∙◌}
 use Rattle.std.proofs.lemmas.List.{take_all}
 use Rattle.scales.proofs.Joins.{effort-nil, effort-priced, effort-unpriced}
 use Rattle.scales.proofs.history.effort_of.Goals as goal

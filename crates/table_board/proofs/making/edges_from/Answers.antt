@@ -11,7 +11,7 @@ loop-edge-init c = record { whole = refl; leads = λ e low. getD_same 256 None e
 pub loop-edge-preserved : goal.loop-edge-preserved
 loop-edge-preserved c =
     let edges = c.args.edges.now in
-    let i = c.loop-edge.edge_index in
+    let i = c.loop-edge.edge-index in
     let p = c.args.policy in
     let q = c.args.state in
     elim c.if-edge-policy.branch [

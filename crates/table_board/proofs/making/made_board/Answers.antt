@@ -2,18 +2,25 @@ use Rattle.table_board.proofs.Fits.{edges_fit, few_policies, policies_fit}
 use Rattle.table_board.proofs.Laying.{eight, few, leads, same, sized, some, starts}
 use Rattle.table_board.proofs.making.made_board.Goals as goal
 
-pub made-heads-requires : goal.made-heads-requires
-made-heads-requires c = policies_fit c.requires
+pub made_heads-requires : goal.made_heads-requires
+made_heads-requires c = policies_fit c.requires
 
-pub made-rows-requires : goal.made-rows-requires
-made-rows-requires c = (few_policies c.requires, edges_fit c.requires)
+pub made_rows-requires : goal.made_rows-requires
+made_rows-requires c = (few_policies c.requires, edges_fit c.requires)
 
-pub invariant-of-result : goal.invariant-of-result
-invariant-of-result c =
+pub invariant_of-result : goal.invariant_of-result
+invariant_of-result c =
     let all = c.requires in
-    let heads = c.in-ok-made-heads.ensures in
-    let rows = c.in-ok-made-rows.ensures in
-    (few all heads rows, (sized all heads rows, (some all heads rows, (eight all heads rows, (starts all heads rows, (leads all heads rows, tt))))))
+    let heads = c.in_ok-made_heads.ensures in
+    let rows = c.in_ok-made_rows.ensures in
+    record {
+      few = few all heads rows;
+      sized = sized all heads rows;
+      some = some all heads rows;
+      eight = eight all heads rows;
+      starts = starts all heads rows;
+      leads = leads all heads rows;
+    }
 
 pub returns : goal.returns
-returns c = same c.requires c.in-ok-made-heads.ensures c.in-ok-made-rows.ensures
+returns c = same c.requires c.in_ok-made_heads.ensures c.in_ok-made_rows.ensures

@@ -12,11 +12,11 @@ loop-line-smaller c = omega (arith, line_advances c.in-Some.ensures, c.in-Some.e
 pub loop-line-preserved : goal.loop-line-preserved
 loop-line-preserved c =
     let found = c.in-Some.ensures in
-    (found.within, search-more c.args.text.now c.args.n c.loop-line.at _ _ c.loop-line.invariant.1 found (sym c.is_node.ensures ∙ c.if-is-node.false))
+    (found.within, search-more c.args.text.now c.args.n c.loop-line.at _ _ c.loop-line.invariant.1 found (sym c.is_node.ensures ∙ c.if-is_node.false))
 
-pub returns-then-is-node : goal.returns-then-is-node
-returns-then-is-node c =
-    search-found c.args.text.now c.args.n c.loop-line.at _ _ c.loop-line.invariant.1 c.in-Some.ensures (sym c.is_node.ensures ∙ c.if-is-node.true)
+pub returns-then-is_node : goal.returns-then-is_node
+returns-then-is_node c =
+    search-found c.args.text.now c.args.n c.loop-line.at _ _ c.loop-line.invariant.1 c.in-Some.ensures (sym c.is_node.ensures ∙ c.if-is_node.true)
 
 pub returns : goal.returns
-returns c = search-all c.args.text.now c.args.n c.loop-line.at c.loop-line.invariant.1 c.in-default.ensures
+returns c = search-all c.args.text.now c.args.n c.loop-line.at c.loop-line.invariant.1 c.in_default.ensures

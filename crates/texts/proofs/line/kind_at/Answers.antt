@@ -4,8 +4,8 @@ use Rattle.texts.proofs.line.kind_at.Goals as goal
 pub returns-then-at-text : goal.returns-then-at-text
 returns-then-at-text c = no_kind_past _ _ c.if-at-text.true
 
-pub returns-in-err-kind : goal.returns-in-err-kind
-returns-in-err-kind c = rw c.from-residual.ensures (no_kind _ _ c.if-at-text.false c.in-err-kind.ensures)
+pub returns-in_err-kind : goal.returns-in_err-kind
+returns-in_err-kind c = rw c.from_residual.ensures (no_kind _ _ c.if-at-text.false c.in_err-kind.ensures)
 
 pub returns : goal.returns
-returns c = kind_at _ _ _ c.if-at-text.false c.in-ok-kind.ensures
+returns c = kind_at _ _ _ c.if-at-text.false c.in_ok-kind.ensures

@@ -1,4 +1,4 @@
-use Rattle.std.proofs.Common.{◌≡◌, get_or, sym, ap, ◌∙◌, arith}
+use Rattle.std.proofs.Common.{get_or, ap, ◌∙◌, arith}
 use Rattle.std.proofs.lemmas.Int.Digits.{digits_value_more}
 use Rattle.std.proofs.lemmas.List.{take_all}
 use Rattle.std.proofs.lemmas.Str.{digit_value_digit}
@@ -6,11 +6,11 @@ use Rattle.std.specs.Str.Parse.{digits_value}
 use Rattle.texts.proofs.Runs.{front_small}
 use Rattle.texts.proofs.number.value_of.Goals as goal
 
-pub overflow-mul-number : goal.overflow-mul-number
-overflow-mul-number c = omega (arith, front_small c.args.digits.now c.loop-digit.digit-index c.requires.all c.requires.few (omega arith))
+pub overflow_mul-number : goal.overflow_mul-number
+overflow_mul-number c = omega (arith, front_small c.args.digits.now c.loop-digit.digit-index c.requires.all c.requires.few (omega arith))
 
-pub overflow-add-number : goal.overflow-add-number
-overflow-add-number c = omega (arith, front_small c.args.digits.now c.loop-digit.digit-index c.requires.all c.requires.few (omega arith), c.type-inv.digits c.loop-digit.digit-index)
+pub overflow_add-number : goal.overflow_add-number
+overflow_add-number c = omega (arith, front_small c.args.digits.now c.loop-digit.digit-index c.requires.all c.requires.few (omega arith), c.type_inv.digits c.loop-digit.digit-index)
 
 pub loop-digit-preserved : goal.loop-digit-preserved
 loop-digit-preserved c =

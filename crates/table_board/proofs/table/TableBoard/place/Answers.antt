@@ -1,4 +1,4 @@
-use Rattle.std.proofs.Common.{◌<◌, ◌≤◌, length, vec_items, arith, rules}
+use Rattle.std.proofs.Common.{◌<◌, length, vec_items, arith, rules}
 use Rattle.table_board.specs.Rows.{head_at}
 use Rattle.table_board.proofs.table.TableBoard.place.Goals as goal
 

@@ -1,4 +1,4 @@
-use Rattle.std.proofs.Common.{◌≡◌, Some, decimal, sym, ap, ◌∙◌, subst, arith}
+use Rattle.std.proofs.Common.{sym, ap, ◌∙◌, subst, arith}
 use Rattle.std.specs.Fmt.{HasWritten}
 use Rattle.records.proofs.Numbers.{written_is}
 use Rattle.texts.specs.Reports.{quota_text}
