@@ -3,7 +3,7 @@ ghost use Rattle.std.specs.Prelude.{◌≡◌, ◌+◌, ◌<◌, ◌≤◌, leng
 ghost use Rattle.records.specs.declared.fault.Layer.TheVariants as layer;
 ghost use Rattle.records.specs.Faults.{answer, refusal};
 ghost use Rattle.boards.specs.Quotas.{counter, quota};
-ghost use Rattle.std.proofs.Common.{rules, arith};
+ghost use Rattle.std.proofs.Common.{rules};
 
 use crate::board::Board;
 use records::fault::Fault;
@@ -43,7 +43,7 @@ impl Quota {
 impl Board for Quota {
     ghost meaning = { λ b. quota b.k b.marked };
 
-    ghost sound = { first_of (Prim.search rules, Prim.grind (arith, Self.row.coded.inj)) };
+    ghost sound = { Prim.search rules };
 
     fn count(&self) -> u8 {
         1

@@ -1,5 +1,5 @@
 -- The rules that a line keeps after the records before it. Assumes nothing.
-use Rattle.std.specs.Prelude.{◌≡◌, ℕ, ◌-◌, ◌<◌, Bool, true, false, cond, not, ◌&&◌, ◌||◌, ltb, List, [], ◌∷◌, ◌++◌, length, get_or, is_some, Some, None, Option, ◌==◌, nat_le, nat_lt, slice_index_or}
+use Rattle.std.specs.Prelude.{◌≡◌, ℕ, ◌-◌, ◌<◌, Bool, true, false, cond, not, ◌&&◌, ◌||◌, List, [], ◌∷◌, ◌++◌, length, is_some, Some, None, Option, ◌==◌, nat_le, nat_lt, slice_index_or}
 use Rattle.records.specs.declared.record.Kind.{Kind}
 use Rattle.records.specs.declared.record.Kind.TheVariants.{Empty, Event, Seq, Choice, Frame, Call}
 use Rattle.records.specs.declared.record.Line.{Line}
@@ -123,7 +123,7 @@ in_limits rs (Tariff r) = nat_lt r.event 256 && (nat_lt 0 r.cost && nat_le r.cos
 
 -- the policy is there, and it has this state
 abbrev pub state_there : List PolicyRecord → ℕ → ℕ → Bool
-state_there policies p q = nat_lt p (length policies) && nat_lt q (get_or policies p (record { policy = 0; states = 0; start = 0 })).states
+state_there policies p q = nat_lt p (length policies) && nat_lt q (slice_index_or policies p (record { policy = 0; states = 0; start = 0 })).states
 
 -- the parts of a node come before it
 abbrev pub parts_there : Kind → ℕ → ℕ → ℕ → Bool
@@ -152,7 +152,7 @@ breach rs line = cond (in_order rs line) (cond (in_limits rs line) (cond (is_the
 -- a node that calls a definition calls one that is there
 abbrev pub call_there : ℕ → NodeRecord → Bool
 call_there defs node =
-    elim node.kind [ Empty ↦ true | Event ↦ true | Seq ↦ true | Choice ↦ true | Frame ↦ true | Call ↦ ltb node.a defs ]
+    elim node.kind [ Empty ↦ true | Event ↦ true | Seq ↦ true | Choice ↦ true | Frame ↦ true | Call ↦ nat_lt node.a defs ]
 
 abbrev pub node_at : List NodeRecord → ℕ → NodeRecord
 node_at nodes k = slice_index_or nodes k (record { node = 0; kind = Empty; a = 0; b = 0 })

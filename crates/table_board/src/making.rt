@@ -134,7 +134,8 @@ fn made_rows(
     bads: &[BadRecord],
     edges: &[EdgeRecord],
 ) -> Result<Vec<Row>, AllocError>
-    requires { (count ≤ 8) × (EdgesFit edges.now) }
+    requires few { count ≤ 8 }
+    requires edges { EdgesFit edges.now }
     ensures { IfOk result (λ v. RowsSay bads.now edges.now (8 * count) v.items) }
 {
     let mut rows = Vec::new(heap);

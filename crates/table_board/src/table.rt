@@ -2,7 +2,7 @@
 ghost use Rattle.std.specs.Prelude.{◌≡◌, ℕ, ◌+◌, ◌*◌, ◌<◌, ◌≤◌, length, IfSome};
 ghost use Rattle.boards.specs.Meanings.{about_state};
 ghost use Rattle.table_board.specs.Rows.{head_at, laid_out, target};
-ghost use Rattle.std.proofs.Common.{rules, arith};
+ghost use Rattle.std.proofs.Common.{rules};
 
 use crate::rows::{Head, Row};
 use boards::board::Board;
@@ -38,7 +38,7 @@ impl TableBoard {
 impl Board for TableBoard {
     ghost meaning = { λ b. laid_out b.heads.items b.rows.items };
 
-    ghost sound = { first_of (Prim.search rules, Prim.grind (arith, Self.row.coded.inj)) };
+    ghost sound = { Prim.search rules };
 
     fn count(&self) -> u8 {
         self.heads.len() as u8

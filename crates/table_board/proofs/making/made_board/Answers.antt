@@ -6,7 +6,7 @@ pub made_heads-requires : goal.made_heads-requires
 made_heads-requires c = policies_fit c.requires
 
 pub made_rows-requires : goal.made_rows-requires
-made_rows-requires c = (few_policies c.requires, edges_fit c.requires)
+made_rows-requires c = record { few = few_policies c.requires; edges = edges_fit c.requires }
 
 pub invariant_of-result : goal.invariant_of-result
 invariant_of-result c =
