@@ -1,8 +1,9 @@
 // What the lines of a text say.
 
 // The kind of a node.
-#[derive(Clone, Copy)]
+#[derive(Clone, Copy, PartialEq, Eq, Debug, Default)]
 pub enum Kind {
+    #[default]
     Empty,
     Event,
     Seq,
@@ -12,7 +13,7 @@ pub enum Kind {
 }
 
 // policy=p states=n start=s
-#[derive(Clone, Copy)]
+#[derive(Clone, Copy, PartialEq, Eq, Debug, Default)]
 pub struct PolicyRecord {
     pub policy: u64,
     pub states: u64,
@@ -20,14 +21,14 @@ pub struct PolicyRecord {
 }
 
 // bad=p state=q
-#[derive(Clone, Copy)]
+#[derive(Clone, Copy, PartialEq, Eq, Debug, Default)]
 pub struct BadRecord {
     pub policy: u64,
     pub state: u64,
 }
 
 // edge=p from=q event=e to=r
-#[derive(Clone, Copy)]
+#[derive(Clone, Copy, PartialEq, Eq, Debug, Default)]
 pub struct EdgeRecord {
     pub policy: u64,
     pub from: u64,
@@ -36,13 +37,13 @@ pub struct EdgeRecord {
 }
 
 // mark=e
-#[derive(Clone, Copy)]
+#[derive(Clone, Copy, PartialEq, Eq, Debug, Default)]
 pub struct MarkRecord {
     pub event: u64,
 }
 
 // node=n kind=K a=A b=B
-#[derive(Clone, Copy)]
+#[derive(Clone, Copy, PartialEq, Eq, Debug, Default)]
 pub struct NodeRecord {
     pub node: u64,
     pub kind: Kind,
@@ -51,21 +52,21 @@ pub struct NodeRecord {
 }
 
 // def=d node=n
-#[derive(Clone, Copy)]
+#[derive(Clone, Copy, PartialEq, Eq, Debug, Default)]
 pub struct DefRecord {
     pub def: u64,
     pub node: u64,
 }
 
 // tariff=e cost=c
-#[derive(Clone, Copy)]
+#[derive(Clone, Copy, PartialEq, Eq, Debug, Default)]
 pub struct TariffRecord {
     pub event: u64,
     pub cost: u64,
 }
 
 // One line; a quota line has only its number.
-#[derive(Clone, Copy)]
+#[derive(Clone, Copy, PartialEq, Eq, Debug)]
 pub enum Line {
     Policy(PolicyRecord),
     Bad(BadRecord),
@@ -78,7 +79,7 @@ pub enum Line {
 }
 
 // The records of the lines so far.
-#[derive(Clone, Copy)]
+#[derive(Clone, Copy, Debug, Default)]
 pub struct Sofar<'a> {
     pub policies: &'a [PolicyRecord],
     pub bads: &'a [BadRecord],
