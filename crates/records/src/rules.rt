@@ -1,166 +1,198 @@
 // The rules that a line keeps after the records before it.
-ghost use Rattle.std.specs.Prelude.{◌≡◌, length, MatchOption};
+ghost use Rattle.std.specs.Prelude.{◌≡◌, Bool, length, MatchOption};
 ghost use Rattle.records.specs.Faults.{answer, at_place};
-ghost use Rattle.records.specs.Rules.{AllCalled, FirstUncalled, breach, call_there, earlier_bad, earlier_edge, held, in_limits, in_order, is_there, no_bads, no_defs, no_edges, no_marks, no_nodes, no_quota, no_tariffs, parts_in_limits, parts_there, rises_bad, rises_edge, rises_mark, rises_tariff, state_there};
+ghost use Rattle.records.specs.Rules.{AllCalled, FirstUncalled, breach, call_there, earlier_bad, earlier_edge, earlier_mark, earlier_tariff, held, in_limits, in_order, is_there, no_bads, no_defs, no_edges, no_marks, no_nodes, no_quota, no_tariffs, parts_in_limits, parts_there, rises, state_there};
 
 use crate::fault::Fault;
-use crate::record::{
-    BadRecord, EdgeRecord, Kind, Line, MarkRecord, NodeRecord, PolicyRecord, Sofar, TariffRecord,
-};
+use crate::record::{BadRecord, EdgeRecord, Kind, Line, MarkRecord, NodeRecord, Sofar, TariffRecord};
 
-fn has_no_tariffs(sofar: Sofar) -> bool
-    ensures { result ≡ no_tariffs (held sofar.entry) }
-{
-    sofar.tariffs.is_empty()
+// Records that come in the order of some of their fields.
+trait Rising: Copy {
+    ghost earlier: { Self → Self → Bool };
+
+    ghost blank: { Self };
+
+    fn is_earlier(self, other: Self) -> bool
+        ensures { result ≡ earlier self other };
 }
 
-fn has_no_defs(sofar: Sofar) -> bool
-    ensures { result ≡ no_defs (held sofar.entry) }
-{
-    sofar.defs.is_empty() && has_no_tariffs(sofar)
-}
+impl Rising for BadRecord {
+    ghost earlier = { earlier_bad };
 
-fn has_no_nodes(sofar: Sofar) -> bool
-    ensures { result ≡ no_nodes (held sofar.entry) }
-{
-    sofar.nodes.is_empty() && has_no_defs(sofar)
-}
+    ghost blank = { record { policy = 0; state = 0 } };
 
-fn has_no_marks(sofar: Sofar) -> bool
-    ensures { result ≡ no_marks (held sofar.entry) }
-{
-    sofar.marks.is_empty() && has_no_nodes(sofar)
-}
-
-fn has_no_quota(sofar: Sofar) -> bool
-    ensures { result ≡ no_quota (held sofar.entry) }
-{
-    sofar.quota.is_none() && has_no_marks(sofar)
-}
-
-fn has_no_edges(sofar: Sofar) -> bool
-    ensures { result ≡ no_edges (held sofar.entry) }
-{
-    sofar.edges.is_empty() && has_no_quota(sofar)
-}
-
-fn has_no_bads(sofar: Sofar) -> bool
-    ensures { result ≡ no_bads (held sofar.entry) }
-{
-    sofar.bads.is_empty() && has_no_edges(sofar)
-}
-
-fn bad_is_earlier(x: BadRecord, y: BadRecord) -> bool
-    ensures { result ≡ earlier_bad x y }
-{
-    x.policy < y.policy || (x.policy == y.policy && x.state < y.state)
-}
-
-fn edge_is_earlier(x: EdgeRecord, y: EdgeRecord) -> bool
-    ensures { result ≡ earlier_edge x y }
-{
-    x.policy < y.policy
-        || (x.policy == y.policy && (x.from < y.from || (x.from == y.from && x.event < y.event)))
-}
-
-fn bad_rises(bads: &[BadRecord], bad: BadRecord) -> bool
-    ensures { result ≡ rises_bad bads.now bad }
-{
-    bads.is_empty() || bad_is_earlier(bads[bads.len() - 1], bad)
-}
-
-fn edge_rises(edges: &[EdgeRecord], edge: EdgeRecord) -> bool
-    ensures { result ≡ rises_edge edges.now edge }
-{
-    edges.is_empty() || edge_is_earlier(edges[edges.len() - 1], edge)
-}
-
-fn mark_rises(marks: &[MarkRecord], mark: MarkRecord) -> bool
-    ensures { result ≡ rises_mark marks.now mark }
-{
-    marks.is_empty() || marks[marks.len() - 1].event < mark.event
-}
-
-fn tariff_rises(tariffs: &[TariffRecord], tariff: TariffRecord) -> bool
-    ensures { result ≡ rises_tariff tariffs.now tariff }
-{
-    tariffs.is_empty() || tariffs[tariffs.len() - 1].event < tariff.event
-}
-
-fn is_in_order(sofar: Sofar, line: Line) -> bool
-    ensures { result ≡ in_order (held sofar.entry) line }
-{
-    match line {
-        Line::Policy(r) => has_no_bads(sofar) && r.policy == sofar.policies.len() as u64,
-        Line::Bad(r) => has_no_edges(sofar) && bad_rises(sofar.bads, r),
-        Line::Edge(r) => has_no_quota(sofar) && edge_rises(sofar.edges, r),
-        Line::Quota(_) => has_no_quota(sofar),
-        Line::Mark(r) => has_no_nodes(sofar) && mark_rises(sofar.marks, r),
-        Line::Node(r) => has_no_defs(sofar) && r.node == sofar.nodes.len() as u64,
-        Line::Def(r) => has_no_tariffs(sofar) && r.def == sofar.defs.len() as u64,
-        Line::Tariff(r) => tariff_rises(sofar.tariffs, r),
+    fn is_earlier(self, other: BadRecord) -> bool {
+        (self.policy, self.state) < (other.policy, other.state)
     }
 }
 
-fn parts_are_in_limits(kind: Kind, a: u64, b: u64) -> bool
-    ensures { result ≡ parts_in_limits kind a b }
-{
-    match kind {
-        Kind::Empty => true,
-        Kind::Event => a < 256,
-        Kind::Seq | Kind::Choice => a < 128 && b < 128,
-        Kind::Frame => a < 8 && b < 128,
-        Kind::Call => a < 32,
+impl Rising for EdgeRecord {
+    ghost earlier = { earlier_edge };
+
+    ghost blank = { record { policy = 0; from = 0; event = 0; to = 0 } };
+
+    fn is_earlier(self, other: EdgeRecord) -> bool {
+        (self.policy, self.from, self.event) < (other.policy, other.from, other.event)
     }
 }
 
-fn is_in_limits(sofar: Sofar, line: Line) -> bool
-    ensures { result ≡ in_limits (held sofar.entry) line }
-{
-    match line {
-        Line::Policy(r) => r.policy < 8 && r.states > 0 && r.states <= 8 && r.start < 8,
-        Line::Bad(r) => r.policy < 8 && r.state < 8,
-        Line::Edge(r) => sofar.edges.len() < 512
-            && r.policy < 8
-            && r.from < 8
-            && r.event < 256
-            && r.to < 8,
-        Line::Quota(k) => k < 7,
-        Line::Mark(r) => r.event < 256,
-        Line::Node(r) => r.node < 128 && parts_are_in_limits(r.kind, r.a, r.b),
-        Line::Def(r) => r.def < 32 && r.node < 128,
-        Line::Tariff(r) => r.event < 256 && r.cost > 0 && r.cost <= 4294967295,
+impl Rising for MarkRecord {
+    ghost earlier = { earlier_mark };
+
+    ghost blank = { record { event = 0 } };
+
+    fn is_earlier(self, other: MarkRecord) -> bool {
+        self.event < other.event
     }
 }
 
-fn state_is_there(policies: &[PolicyRecord], policy: u64, state: u64) -> bool
-    ensures { result ≡ state_there policies.now policy state }
-{
-    policy < policies.len() as u64 && state < policies[policy as usize].states
-}
+impl Rising for TariffRecord {
+    ghost earlier = { earlier_tariff };
 
-fn parts_are_there(kind: Kind, node: u64, a: u64, b: u64) -> bool
-    ensures { result ≡ parts_there kind node a b }
-{
-    match kind {
-        Kind::Empty | Kind::Event | Kind::Call => true,
-        Kind::Seq | Kind::Choice => a < node && b < node,
-        Kind::Frame => b < node,
+    ghost blank = { record { event = 0; cost = 0 } };
+
+    fn is_earlier(self, other: TariffRecord) -> bool {
+        self.event < other.event
     }
 }
 
-fn names_are_there(sofar: Sofar, line: Line) -> bool
-    ensures { result ≡ is_there (held sofar.entry) line }
+// Whether a record comes after the last of these.
+fn rises<R: Rising>(records: &[R], next: R) -> bool
+    ensures { result ≡ rises R.earlier R.blank records.now next }
 {
-    match line {
-        Line::Policy(r) => r.start < r.states,
-        Line::Bad(r) => state_is_there(sofar.policies, r.policy, r.state),
-        Line::Edge(r) => state_is_there(sofar.policies, r.policy, r.from)
-            && state_is_there(sofar.policies, r.policy, r.to),
-        Line::Mark(_) => sofar.quota.is_some(),
-        Line::Node(r) => parts_are_there(r.kind, r.node, r.a, r.b),
-        Line::Def(r) => r.node < sofar.nodes.len() as u64,
-        Line::Quota(_) | Line::Tariff(_) => true,
+    records.last().is_none_or(|last| last.is_earlier(next))
+}
+
+impl NodeRecord {
+    fn has_parts_in_limits(self) -> bool
+        ensures { result ≡ parts_in_limits self.kind self.a self.b }
+    {
+        match self.kind {
+            Kind::Empty => true,
+            Kind::Event => self.a < 256,
+            Kind::Seq | Kind::Choice => self.a < 128 && self.b < 128,
+            Kind::Frame => self.a < 8 && self.b < 128,
+            Kind::Call => self.a < 32,
+        }
+    }
+
+    fn has_parts_there(self) -> bool
+        ensures { result ≡ parts_there self.kind self.node self.a self.b }
+    {
+        match self.kind {
+            Kind::Empty | Kind::Event | Kind::Call => true,
+            Kind::Seq | Kind::Choice => self.a < self.node && self.b < self.node,
+            Kind::Frame => self.b < self.node,
+        }
+    }
+
+    fn has_call_there(self, defs: usize) -> bool
+        ensures { result ≡ call_there defs self }
+    {
+        match self.kind {
+            Kind::Call => self.a < defs as u64,
+            Kind::Empty | Kind::Event | Kind::Seq | Kind::Choice | Kind::Frame => true,
+        }
+    }
+}
+
+impl<'a> Sofar<'a> {
+    fn has_no_tariffs(self) -> bool
+        ensures { result ≡ no_tariffs (held self.entry) }
+    {
+        self.tariffs.is_empty()
+    }
+
+    fn has_no_defs(self) -> bool
+        ensures { result ≡ no_defs (held self.entry) }
+    {
+        self.defs.is_empty() && self.has_no_tariffs()
+    }
+
+    fn has_no_nodes(self) -> bool
+        ensures { result ≡ no_nodes (held self.entry) }
+    {
+        self.nodes.is_empty() && self.has_no_defs()
+    }
+
+    fn has_no_marks(self) -> bool
+        ensures { result ≡ no_marks (held self.entry) }
+    {
+        self.marks.is_empty() && self.has_no_nodes()
+    }
+
+    fn has_no_quota(self) -> bool
+        ensures { result ≡ no_quota (held self.entry) }
+    {
+        self.quota.is_none() && self.has_no_marks()
+    }
+
+    fn has_no_edges(self) -> bool
+        ensures { result ≡ no_edges (held self.entry) }
+    {
+        self.edges.is_empty() && self.has_no_quota()
+    }
+
+    fn has_no_bads(self) -> bool
+        ensures { result ≡ no_bads (held self.entry) }
+    {
+        self.bads.is_empty() && self.has_no_edges()
+    }
+
+    fn has_state(self, policy: u64, state: u64) -> bool
+        ensures { result ≡ state_there self.entry.policies.now policy state }
+    {
+        self.policies
+            .get(policy as usize)
+            .is_some_and(|record| state < record.states)
+    }
+
+    fn has_in_order(self, line: Line) -> bool
+        ensures { result ≡ in_order (held self.entry) line }
+    {
+        match line {
+            Line::Policy(r) => self.has_no_bads() && r.policy == self.policies.len() as u64,
+            Line::Bad(r) => self.has_no_edges() && rises(self.bads, r),
+            Line::Edge(r) => self.has_no_quota() && rises(self.edges, r),
+            Line::Quota(_) => self.has_no_quota(),
+            Line::Mark(r) => self.has_no_nodes() && rises(self.marks, r),
+            Line::Node(r) => self.has_no_defs() && r.node == self.nodes.len() as u64,
+            Line::Def(r) => self.has_no_tariffs() && r.def == self.defs.len() as u64,
+            Line::Tariff(r) => rises(self.tariffs, r),
+        }
+    }
+
+    fn has_in_limits(self, line: Line) -> bool
+        ensures { result ≡ in_limits (held self.entry) line }
+    {
+        match line {
+            Line::Policy(r) => r.policy < 8 && r.states > 0 && r.states <= 8 && r.start < 8,
+            Line::Bad(r) => r.policy < 8 && r.state < 8,
+            Line::Edge(r) => self.edges.len() < 512
+                && r.policy < 8
+                && r.from < 8
+                && r.event < 256
+                && r.to < 8,
+            Line::Quota(k) => k < 7,
+            Line::Mark(r) => r.event < 256,
+            Line::Node(r) => r.node < 128 && r.has_parts_in_limits(),
+            Line::Def(r) => r.def < 32 && r.node < 128,
+            Line::Tariff(r) => r.event < 256 && r.cost > 0 && r.cost <= 4294967295,
+        }
+    }
+
+    fn has_named(self, line: Line) -> bool
+        ensures { result ≡ is_there (held self.entry) line }
+    {
+        match line {
+            Line::Policy(r) => r.start < r.states,
+            Line::Bad(r) => self.has_state(r.policy, r.state),
+            Line::Edge(r) => self.has_state(r.policy, r.from) && self.has_state(r.policy, r.to),
+            Line::Mark(_) => self.quota.is_some(),
+            Line::Node(r) => r.has_parts_there(),
+            Line::Def(r) => r.node < self.nodes.len() as u64,
+            Line::Quota(_) | Line::Tariff(_) => true,
+        }
     }
 }
 
@@ -168,35 +200,21 @@ fn names_are_there(sofar: Sofar, line: Line) -> bool
 pub fn check(sofar: Sofar, line: Line, place: usize) -> Result<(), Fault>
     ensures { answer result ≡ at_place place (breach (held sofar.entry) line) }
 {
-    if !is_in_order(sofar, line) {
+    if !sofar.has_in_order(line) {
         return Err(Fault::Order(place));
     }
-    if !is_in_limits(sofar, line) {
+    if !sofar.has_in_limits(line) {
         return Err(Fault::Limit(place));
     }
-    if !names_are_there(sofar, line) {
+    if !sofar.has_named(line) {
         return Err(Fault::Missing(place));
     }
     Ok(())
-}
-
-fn call_is_there(defs: usize, node: NodeRecord) -> bool
-    ensures { result ≡ call_there defs node }
-{
-    match node.kind {
-        Kind::Call => node.a < defs as u64,
-        Kind::Empty | Kind::Event | Kind::Seq | Kind::Choice | Kind::Frame => true,
-    }
 }
 
 // The lowest node that calls a definition which is not there.
 pub fn undefined_call(nodes: &[NodeRecord], defs: usize) -> Option<usize>
     ensures { MatchOption result (AllCalled nodes.now defs (length nodes.now)) (λ n. FirstUncalled nodes.now defs n) }
 {
-    for (n, node) in nodes.iter().enumerate() {
-        if !call_is_there(defs, *node) {
-            return Some(n);
-        }
-    }
-    None
+    nodes.iter().position(|node| !node.has_call_there(defs))
 }

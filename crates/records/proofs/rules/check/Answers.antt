@@ -2,17 +2,17 @@ use Rattle.std.proofs.Common.{rules}
 use Rattle.records.specs.Rules.{breach}
 use Rattle.records.proofs.rules.check.Goals as goal
 
-pub returns-then-not-is_in_order : goal.returns-then-not-is_in_order
+pub returns-then-not-has_in_order : goal.returns-then-not-has_in_order
 unfolding breach
-returns-then-not-is_in_order c = search rules
+returns-then-not-has_in_order c = search rules
 
-pub returns-then-not-is_in_limits : goal.returns-then-not-is_in_limits
+pub returns-then-not-has_in_limits : goal.returns-then-not-has_in_limits
 unfolding breach
-returns-then-not-is_in_limits c = search rules
+returns-then-not-has_in_limits c = search rules
 
-pub returns-then-not-names_are_there : goal.returns-then-not-names_are_there
+pub returns-then-not-has_named : goal.returns-then-not-has_named
 unfolding breach
-returns-then-not-names_are_there c = search rules
+returns-then-not-has_named c = search rules
 
 pub returns : goal.returns
 unfolding breach
