@@ -1,5 +1,5 @@
 -- The rules that a line keeps after the records before it. Assumes nothing.
-use Rattle.std.specs.Prelude.{◌≡◌, ℕ, ◌-◌, ◌<◌, Bool, true, false, cond, not, ◌&&◌, ◌||◌, List, [], ◌∷◌, ◌++◌, length, is_some, Some, None, Option, ◌==◌, nat_le, nat_lt, slice_index_or}
+use Rattle.std.specs.Prelude.{◌≡◌, ℕ, ◌-◌, ◌<◌, Bool, true, false, if◌then◌else◌, not, ◌&&◌, ◌||◌, List, [], ◌∷◌, ◌++◌, length, is_some, Some, None, Option, ◌==◌, nat_le, nat_lt, slice_index_or}
 use Rattle.records.specs.declared.record.Kind.{Kind}
 use Rattle.records.specs.declared.record.Kind.TheVariants.{Empty, Event, Seq, Choice, Frame, Call}
 use Rattle.records.specs.declared.record.Line.{Line}
@@ -29,14 +29,14 @@ held s = record { policies = s.policies.now; bads = s.bads.now; edges = s.edges.
 
 -- the record of one line more, behind those of its kind
 abbrev pub added : Records → Line → Records
-added rs (Policy r) = record { policies = rs.policies ++ r ∷ []; bads = rs.bads; edges = rs.edges; quota = rs.quota; marks = rs.marks; nodes = rs.nodes; defs = rs.defs; tariffs = rs.tariffs }
-added rs (Bad r) = record { policies = rs.policies; bads = rs.bads ++ r ∷ []; edges = rs.edges; quota = rs.quota; marks = rs.marks; nodes = rs.nodes; defs = rs.defs; tariffs = rs.tariffs }
-added rs (Edge r) = record { policies = rs.policies; bads = rs.bads; edges = rs.edges ++ r ∷ []; quota = rs.quota; marks = rs.marks; nodes = rs.nodes; defs = rs.defs; tariffs = rs.tariffs }
-added rs (Quota k) = record { policies = rs.policies; bads = rs.bads; edges = rs.edges; quota = Some k; marks = rs.marks; nodes = rs.nodes; defs = rs.defs; tariffs = rs.tariffs }
-added rs (Mark r) = record { policies = rs.policies; bads = rs.bads; edges = rs.edges; quota = rs.quota; marks = rs.marks ++ r ∷ []; nodes = rs.nodes; defs = rs.defs; tariffs = rs.tariffs }
-added rs (Node r) = record { policies = rs.policies; bads = rs.bads; edges = rs.edges; quota = rs.quota; marks = rs.marks; nodes = rs.nodes ++ r ∷ []; defs = rs.defs; tariffs = rs.tariffs }
-added rs (Def r) = record { policies = rs.policies; bads = rs.bads; edges = rs.edges; quota = rs.quota; marks = rs.marks; nodes = rs.nodes; defs = rs.defs ++ r ∷ []; tariffs = rs.tariffs }
-added rs (Tariff r) = record { policies = rs.policies; bads = rs.bads; edges = rs.edges; quota = rs.quota; marks = rs.marks; nodes = rs.nodes; defs = rs.defs; tariffs = rs.tariffs ++ r ∷ [] }
+added rs (Policy r) = record rs { policies = rs.policies ++ r ∷ [] }
+added rs (Bad r) = record rs { bads = rs.bads ++ r ∷ [] }
+added rs (Edge r) = record rs { edges = rs.edges ++ r ∷ [] }
+added rs (Quota k) = record rs { quota = Some k }
+added rs (Mark r) = record rs { marks = rs.marks ++ r ∷ [] }
+added rs (Node r) = record rs { nodes = rs.nodes ++ r ∷ [] }
+added rs (Def r) = record rs { defs = rs.defs ++ r ∷ [] }
+added rs (Tariff r) = record rs { tariffs = rs.tariffs ++ r ∷ [] }
 
 -- no line of this kind came yet, nor one of a kind behind it
 abbrev pub no_tariffs : Records → Bool
@@ -147,7 +147,7 @@ is_there rs (Tariff r) = true
 
 -- the first of the rules 2, 3 and 4 that a line breaks
 unfoldable pub breach : Records → Line → Option ℕ
-breach rs line = cond (in_order rs line) (cond (in_limits rs line) (cond (is_there rs line) None (Some 4)) (Some 3)) (Some 2)
+breach rs line = if in_order rs line then (if in_limits rs line then (if is_there rs line then None else Some 4) else Some 3) else Some 2
 
 -- a node that calls a definition calls one that is there
 abbrev pub call_there : ℕ → NodeRecord → Bool

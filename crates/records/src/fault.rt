@@ -1,6 +1,10 @@
 // Why a call refuses.
 ghost use Rattle.std.specs.Prelude.{◌≡◌};
-ghost use Rattle.records.specs.Faults.{told};
+ghost use Rattle.std.specs.Option.{option_map};
+ghost use Rattle.records.specs.declared.fault.Fault.TheVariants.{NoMemory};
+ghost use Rattle.records.specs.Faults.{answer, told};
+
+use std::alloc::{AllocError, AllocFailed};
 
 // Which part of the checker refuses.
 #[derive(Clone, Copy, PartialEq, Eq, Debug)]
@@ -107,5 +111,32 @@ impl Fault {
             | Fault::StackFull
             | Fault::Mismatch => 0,
         }
+    }
+}
+
+// Want of memory.
+impl From<AllocError> for Fault {
+    ghost from_gives = { λ _ fault. fault ≡ NoMemory };
+
+    fn from(_: AllocError) -> Fault {
+        Fault::NoMemory
+    }
+}
+
+impl<T: Drop> From<AllocFailed<T>> for Fault {
+    ghost from_gives = { λ _ fault. fault ≡ NoMemory };
+
+    fn from(_: AllocFailed<T>) -> Fault {
+        Fault::NoMemory
+    }
+}
+
+// The number, the layer and the place of a refusal, if the call was refused.
+pub fn refused<T>(call: &Result<T, Fault>) -> Option<(u8, Layer, usize)>
+    ensures { result ≡ option_map (λ t. (t.number, t.layer, t.place)) (answer call.now) }
+{
+    match call {
+        Ok(_) => None,
+        Err(fault) => Some((fault.number(), fault.layer(), fault.place())),
     }
 }

@@ -2,8 +2,6 @@
 ghost use Rattle.records.specs.Written.{WrittenByRule};
 
 // A number is written by the rule of its last digit.
-pub fn written_by_rule() -> u8
+pub fn written_by_rule()
     ensures { WrittenByRule }
-{
-    0
-}
+{}

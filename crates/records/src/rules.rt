@@ -1,16 +1,18 @@
 // The rules that a line keeps after the records before it.
 ghost use Rattle.std.specs.Prelude.{◌≡◌, Bool, length, MatchOption};
+ghost use Rattle.records.specs.Breaks.{Tested, breach_at};
 ghost use Rattle.records.specs.Faults.{answer, at_place};
 ghost use Rattle.records.specs.Rules.{AllCalled, FirstUncalled, breach, call_there, earlier_bad, earlier_edge, earlier_mark, earlier_tariff, held, in_limits, in_order, is_there, no_bads, no_defs, no_edges, no_marks, no_nodes, no_quota, no_tariffs, parts_in_limits, parts_there, rises, state_there};
 
 use crate::fault::Fault;
-use crate::record::{BadRecord, EdgeRecord, Kind, Line, MarkRecord, NodeRecord, Sofar, TariffRecord};
+use crate::kinds::Record;
+use crate::record::{
+    BadRecord, EdgeRecord, Kind, Line, MarkRecord, NodeRecord, Sofar, TariffRecord,
+};
 
 // Records that come in the order of some of their fields.
-trait Rising: Copy {
+trait Rising: Record {
     ghost earlier: { Self → Self → Bool };
-
-    ghost blank: { Self };
 
     fn is_earlier(self, other: Self) -> bool
         ensures { result ≡ earlier self other };
@@ -18,8 +20,6 @@ trait Rising: Copy {
 
 impl Rising for BadRecord {
     ghost earlier = { earlier_bad };
-
-    ghost blank = { record { policy = 0; state = 0 } };
 
     fn is_earlier(self, other: BadRecord) -> bool {
         (self.policy, self.state) < (other.policy, other.state)
@@ -29,8 +29,6 @@ impl Rising for BadRecord {
 impl Rising for EdgeRecord {
     ghost earlier = { earlier_edge };
 
-    ghost blank = { record { policy = 0; from = 0; event = 0; to = 0 } };
-
     fn is_earlier(self, other: EdgeRecord) -> bool {
         (self.policy, self.from, self.event) < (other.policy, other.from, other.event)
     }
@@ -38,8 +36,6 @@ impl Rising for EdgeRecord {
 
 impl Rising for MarkRecord {
     ghost earlier = { earlier_mark };
-
-    ghost blank = { record { event = 0 } };
 
     fn is_earlier(self, other: MarkRecord) -> bool {
         self.event < other.event
@@ -49,8 +45,6 @@ impl Rising for MarkRecord {
 impl Rising for TariffRecord {
     ghost earlier = { earlier_tariff };
 
-    ghost blank = { record { event = 0; cost = 0 } };
-
     fn is_earlier(self, other: TariffRecord) -> bool {
         self.event < other.event
     }
@@ -58,7 +52,7 @@ impl Rising for TariffRecord {
 
 // Whether a record comes after the last of these.
 fn rises<R: Rising>(records: &[R], next: R) -> bool
-    ensures { result ≡ rises R.earlier R.blank records.now next }
+    ensures { result ≡ rises R.earlier R.Record.blank records.now next }
 {
     records.last().is_none_or(|last| last.is_earlier(next))
 }
@@ -208,6 +202,16 @@ pub fn check(sofar: Sofar, line: Line, place: usize) -> Result<(), Fault>
     }
     if !sofar.has_named(line) {
         return Err(Fault::Missing(place));
+    }
+    Ok(())
+}
+
+// Tests each of these records after the records so far and those of its kind that stand before it; its place is its number.
+pub fn check_each<'a, R: Record>(sofar: Sofar<'a>, these: &'a [R]) -> Result<(), Fault>
+    ensures { Tested (breach_at R.line R.among R.blank (held sofar.entry) these.now) (length these.now) result }
+{
+    for (k, record) in these.iter().enumerate() {
+        check(R::among(sofar, &these[0..k]), record.line(), k)?;
     }
     Ok(())
 }
