@@ -21,6 +21,7 @@ impl fmt::Display for Layer {
 impl fmt::Display for Fault {
     ghost output = { λ x. Some (refusal_text (told x)) };
 
+    #[tactic(auto, using(crate::proofs::Numbers::written_is))]
     fn fmt<W: fmt::Write>(&self, f: &mut fmt::Formatter<W>) -> fmt::Result {
         let number = self.number();
         let layer = self.layer();

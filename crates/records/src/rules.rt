@@ -191,6 +191,7 @@ impl<'a> Sofar<'a> {
 }
 
 // Refuses a line that is out of order, out of limits or names what is not there, with the first of these.
+#[tactic(auto, unfolding(crate::specs::Rules::breach))]
 pub fn check(sofar: Sofar, line: Line, place: usize) -> Result<(), Fault>
     ensures { answer result ≡ at_place place (breach (held sofar.entry) line) }
 {
