@@ -1,5 +1,6 @@
 -- Records that keep the rules say sound nodes and bodies. Assumes nothing.
 use Rattle.std.proofs.Common.{◌≡◌, ℕ, ◌<◌, ◌≤◌, true, eqb, ltb, List, [], map, length, take, None, sym, refl, ◌∙◌, subst, ⊎_elim, arith}
+use Rattle.std.proofs.lemmas.List.Elements.{All-from_get_or}
 use Rattle.std.proofs.lemmas.List.{get_or-map, length-map, length-take-le}
 use Rattle.std.proofs.lemmas.Bool.{and_from, and_parts, cases_lt, eqb-true, ltb-true}
 use Rattle.records.specs.declared.record.Kind.{Kind}
@@ -71,10 +72,10 @@ at_most n limit h = ⊎_elim (λ more. let lt : limit < limit = h limit more in 
 
 module _ {nodes : List NodeRecord} {defs : List DefRecord} (all : Kept nodes defs) where
   pub nodes_fit : NodesFit nodes
-  nodes_fit k h = (node_fits nodes k h (all.every_node k h)).limits
+  nodes_fit = All-from_get_or (λ r. parts_in_limits r.kind r.a r.b ≡ true) nodes (record { node = 0; kind = kind.Empty; a = 0; b = 0 }) (λ k h. (node_fits nodes k h (all.every_node k h)).limits)
 
   pub bodies_fit : BodiesFit defs
-  bodies_fit d h = (def_fits nodes defs d h (all.every_def d h)).limit
+  bodies_fit = All-from_get_or (λ r. body_of r < 128) defs (record { def = 0; node = 0 }) (λ d h. (def_fits nodes defs d h (all.every_def d h)).limit)
 
   placed_nodes : (defined : ℕ) → defined ≡ length defs → PlacedNodes (map node_of nodes) defined
   placed_nodes defined same n h =

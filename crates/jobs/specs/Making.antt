@@ -1,5 +1,5 @@
 -- What the making of a table from records answers. Assumes nothing.
-use Rattle.std.specs.Prelude.{◌≡◌, ℕ, ◌<◌, true, ◌⊎◌, List, [], map, length, take, Some, None, Ok, Err, Option, Result, slice_index_or}
+use Rattle.std.specs.Prelude.{◌≡◌, ℕ, ◌<◌, true, ◌⊎◌, List, [], map, length, take, Some, None, Ok, Err, Option, Result, slice_index_or, All}
 use Rattle.records.specs.declared.fault.Fault.{Fault}
 use Rattle.records.specs.declared.fault.Layer.TheVariants as layer
 use Rattle.records.specs.declared.record.Kind.{Kind}
@@ -7,6 +7,7 @@ use Rattle.records.specs.declared.record.Kind.TheVariants as kind
 use Rattle.records.specs.declared.record.Line.TheVariants as line
 use Rattle.records.specs.declared.record.NodeRecord.{NodeRecord}
 use Rattle.records.specs.declared.record.DefRecord.{DefRecord}
+use Rattle.records.specs.Breaks.{FirstBreak, Keep}
 use Rattle.records.specs.Faults.{Refusal, answer, refusal, told}
 use Rattle.records.specs.Rules.{AllCalled, FirstUncalled, Records, breach, node_at, parts_in_limits}
 use Rattle.jobs.specs.declared.node.Node.{Node}
@@ -32,29 +33,19 @@ def_breach nodes defs d = breach (alone nodes (take d defs)) (line.Def (def_at d
 
 -- each of the first n node records keeps the rules
 abbrev pub NodesKeep : List NodeRecord → ℕ → Type 0
-NodesKeep nodes n = (k : ℕ) → k < n → node_breach nodes k ≡ None
+NodesKeep nodes = Keep (node_breach nodes)
 
 -- each of the first n definition records keeps the rules
 abbrev pub DefsKeep : List NodeRecord → List DefRecord → ℕ → Type 0
-DefsKeep nodes defs n = (d : ℕ) → d < n → def_breach nodes defs d ≡ None
+DefsKeep nodes defs = Keep (def_breach nodes defs)
 
 -- the first node record that breaks a rule
-pub record BadNode (nodes : List NodeRecord) (tells : Refusal) : Type 0 where
-  pub place : ℕ
-  pub rule : ℕ
-  pub within : place < length nodes
-  pub below : NodesKeep nodes place
-  pub here : node_breach nodes place ≡ Some rule
-  pub says : tells ≡ refusal rule layer.Table place
+abbrev pub BadNode : List NodeRecord → Refusal → Type 0
+BadNode nodes = FirstBreak (node_breach nodes) (length nodes)
 
 -- the first definition record that breaks a rule
-pub record BadDef (nodes : List NodeRecord) (defs : List DefRecord) (tells : Refusal) : Type 0 where
-  pub place : ℕ
-  pub rule : ℕ
-  pub within : place < length defs
-  pub below : DefsKeep nodes defs place
-  pub here : def_breach nodes defs place ≡ Some rule
-  pub says : tells ≡ refusal rule layer.Table place
+abbrev pub BadDef : List NodeRecord → List DefRecord → Refusal → Type 0
+BadDef nodes defs = FirstBreak (def_breach nodes defs) (length defs)
 
 -- the lowest node that calls a definition which is not there
 pub record BadCall (nodes : List NodeRecord) (defs : ℕ) (tells : Refusal) : Type 0 where
@@ -93,11 +84,11 @@ body_of r = r.node
 
 -- the fields of each node record are in their limits
 abbrev pub NodesFit : List NodeRecord → Type 0
-NodesFit nodes = (k : ℕ) → k < length nodes → parts_in_limits (node_at nodes k).kind (node_at nodes k).a (node_at nodes k).b ≡ true
+NodesFit = All (λ r. parts_in_limits r.kind r.a r.b ≡ true)
 
 -- each body is in its limit
 abbrev pub BodiesFit : List DefRecord → Type 0
-BodiesFit defs = (d : ℕ) → d < length defs → body_of (def_at defs d) < 128
+BodiesFit = All (λ r. body_of r < 128)
 
 -- the table has the nodes and bodies that the records say, and they are sound
 pub record Holds (nodes : List NodeRecord) (defs : List DefRecord) (table : Table) : Type 0 where

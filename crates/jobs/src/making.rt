@@ -7,45 +7,9 @@ ghost use Rattle.jobs.specs.Making.{BadCall, BadDef, BadNode, BodiesFit, Broken,
 use crate::node::Node;
 use crate::table::Table;
 use records::fault::Fault;
-use records::record::{DefRecord, Kind, Line, NodeRecord, Sofar};
-use records::rules::{check, undefined_call};
+use records::record::{DefRecord, Kind, NodeRecord, Sofar};
+use records::rules::{check_each, undefined_call};
 use std::alloc::{AllocError, Global};
-
-// These nodes and definitions, and no other records.
-fn records_of<'a>(nodes: &'a [NodeRecord], defs: &'a [DefRecord]) -> Sofar<'a>
-    ensures { held result ≡ alone nodes.now defs.now }
-{
-    Sofar {
-        policies: &[],
-        bads: &[],
-        edges: &[],
-        quota: None,
-        marks: &[],
-        nodes,
-        defs,
-        tariffs: &[],
-    }
-}
-
-// Tests each node record after those before it.
-fn check_nodes(nodes: &[NodeRecord]) -> Result<(), Fault>
-    ensures { MatchResult result (λ _. NodesKeep nodes.now (length nodes.now)) (λ fault. BadNode nodes.now (told fault)) }
-{
-    for (k, node) in nodes.iter().enumerate() {
-        check(records_of(&nodes[0..k], &[]), Line::Node(*node), k)?;
-    }
-    Ok(())
-}
-
-// Tests each definition record after all the nodes and the definitions before it.
-fn check_defs<'a>(nodes: &'a [NodeRecord], defs: &'a [DefRecord]) -> Result<(), Fault>
-    ensures { MatchResult result (λ _. DefsKeep nodes.now defs.now (length defs.now)) (λ fault. BadDef nodes.now defs.now (told fault)) }
-{
-    for (d, def) in defs.iter().enumerate() {
-        check(records_of(nodes, &defs[0..d]), Line::Def(*def), d)?;
-    }
-    Ok(())
-}
 
 // Tests that each called definition is there.
 fn check_calls(nodes: &[NodeRecord], defs: usize) -> Result<(), Fault>
@@ -61,8 +25,9 @@ fn check_calls(nodes: &[NodeRecord], defs: usize) -> Result<(), Fault>
 fn check_records(nodes: &[NodeRecord], defs: &[DefRecord]) -> Result<(), Fault>
     ensures { MatchResult result (λ _. Kept nodes.now defs.now) (λ fault. Broken nodes.now defs.now (told fault)) }
 {
-    check_nodes(nodes)?;
-    check_defs(nodes, defs)?;
+    let none = Sofar::default();
+    check_each(none, nodes)?;
+    check_each(Sofar { nodes, ..none }, defs)?;
     check_calls(nodes, defs.len())
 }
 
@@ -85,33 +50,14 @@ fn made_nodes(heap: Global, records: &[NodeRecord]) -> Result<Vec<Node>, AllocEr
     requires { NodesFit records.now }
     ensures { IfOk result (λ v. v.items ≡ map node_of records.now) }
 {
-    let mut nodes = Vec::new(heap);
-    for from in records {
-        nodes.push(node_of(*from))?;
-    }
-    Ok(nodes)
+    records.iter().map(|from| node_of(*from)).collect(heap)
 }
 
 fn made_bodies(heap: Global, records: &[DefRecord]) -> Result<Vec<u8>, AllocError>
     requires { BodiesFit records.now }
     ensures { IfOk result (λ v. v.items ≡ map body_of records.now) }
 {
-    let mut bodies = Vec::new(heap);
-    for from in records {
-        bodies.push(from.node as u8)?;
-    }
-    Ok(bodies)
-}
-
-// The table of records that keep all rules, if there is memory for it.
-fn made_table(heap: Global, nodes: &[NodeRecord], defs: &[DefRecord]) -> Result<Table, AllocError>
-    requires { Kept nodes.now defs.now }
-    ensures { IfOk result (λ table. Holds nodes.now defs.now table) }
-{
-    Ok(Table {
-        nodes: made_nodes(heap, nodes)?,
-        bodies: made_bodies(heap, defs)?,
-    })
+    records.iter().map(|from| from.node as u8).collect(heap)
 }
 
 impl Table {
@@ -125,9 +71,9 @@ impl Table {
         ensures only { Only nodes.now defs.now result }
     {
         check_records(nodes, defs)?;
-        match made_table(heap, nodes, defs) {
-            Ok(table) => Ok(table),
-            Err(_) => Err(Fault::NoMemory),
-        }
+        Ok(Table {
+            nodes: made_nodes(heap, nodes)?,
+            bodies: made_bodies(heap, defs)?,
+        })
     }
 }

@@ -4,7 +4,7 @@ ghost use Rattle.std.specs.Option.{option_map};
 ghost use Rattle.records.specs.declared.fault.Fault.TheVariants.{NoMemory};
 ghost use Rattle.records.specs.Faults.{answer, told};
 
-use std::alloc::{AllocError, AllocFailed};
+use std::alloc::AllocError;
 
 // Which part of the checker refuses.
 #[derive(Clone, Copy, PartialEq, Eq, Debug)]
@@ -118,16 +118,8 @@ impl Fault {
 impl From<AllocError> for Fault {
     ghost from_gives = { λ _ fault. fault ≡ NoMemory };
 
-    fn from(_: AllocError) -> Fault {
-        Fault::NoMemory
-    }
-}
-
-impl<T: Drop> From<AllocFailed<T>> for Fault {
-    ghost from_gives = { λ _ fault. fault ≡ NoMemory };
-
-    fn from(_: AllocFailed<T>) -> Fault {
-        Fault::NoMemory
+    fn from(_: AllocError) -> Self {
+        Self::NoMemory
     }
 }
 
