@@ -1,26 +1,22 @@
 -- A making has one answer, but for want of memory. Assumes nothing.
-use Rattle.std.proofs.Common.{◌≡◌, ℕ, List, length, Some, Result, refl, ap, inl, inr, ⊎_elim}
-use Rattle.std.proofs.lemmas.Bool.{both_ways, cases_order}
+use Rattle.std.proofs.Common.{◌≡◌, ℕ, List, length, Result}
+use Rattle.std.proofs.lemmas.Bool.{both_ways}
 use Rattle.records.specs.declared.fault.Fault.{Fault}
 use Rattle.records.specs.declared.record.NodeRecord.{NodeRecord}
 use Rattle.records.specs.declared.record.DefRecord.{DefRecord}
 use Rattle.records.specs.Faults.{Refusal}
-use Rattle.records.specs.Rules.{AllCalled, FirstUncalled}
-use Rattle.records.proofs.Breaks.{apart, same_break}
+use Rattle.records.specs.Rules.{AllCalled}
+use Rattle.records.proofs.Breaks.{apart, one_call, same_break}
+use Rattle.records.proofs.Makings as making
 use Rattle.jobs.specs.declared.table.Table.{Table}
 use Rattle.jobs.specs.Making.{BadCall, Broken, Kept, Makes, Only}
-
--- the lowest uncalled node is one node
-lowest_call : {nodes : List NodeRecord} {defs j k : ℕ} → FirstUncalled nodes defs j → FirstUncalled nodes defs k → j ≡ k
-lowest_call {j = j} {k = k} x y =
-    ⊎_elim (λ e. e) (λ apart. ⊎_elim (λ h. absurd (both_ways _ x.here (y.below j h))) (λ h. absurd (both_ways _ y.here (x.below k h))) apart) (cases_order j k)
 
 module _ {nodes : List NodeRecord} where
   uncalled : {count : ℕ} {tells : Refusal} → BadCall nodes count tells → AllCalled nodes count (length nodes) → ⊥
   uncalled x all = both_ways _ x.lowest.here (all x.place x.lowest.within)
 
   same_call : {count : ℕ} {s t : Refusal} → BadCall nodes count s → BadCall nodes count t → s ≡ t
-  same_call x y = let place = lowest_call x.lowest y.lowest in cc
+  same_call x y = let place = one_call x.lowest y.lowest in cc
 
 module _ {nodes : List NodeRecord} {defs : List DefRecord} where
   -- the first break is told in one way
@@ -42,6 +38,4 @@ module _ {nodes : List NodeRecord} {defs : List DefRecord} where
   unbroken all (Broken.call keep defined x) = uncalled x all.every_call
 
   pub only : {r : Result Table Fault} → Makes nodes defs r → Only nodes defs r
-  only (Makes.made all holds) = record { broken = λ tells first. absurd (unbroken all first); kept = λ _. inl refl }
-  only (Makes.refused first) = record { broken = λ tells other. ap Some (one_refusal first other); kept = λ all. absurd (unbroken all first) }
-  only (Makes.no_memory all says) = record { broken = λ tells first. absurd (unbroken all first); kept = λ _. inr (ap Some says) }
+  only = making.only (λ s t. one_refusal) (λ t. unbroken)

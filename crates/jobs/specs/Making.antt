@@ -1,5 +1,5 @@
 -- What the making of a table from records answers. Assumes nothing.
-use Rattle.std.specs.Prelude.{◌≡◌, ℕ, ◌<◌, true, ◌⊎◌, List, [], map, length, take, Some, None, Ok, Err, Option, Result, slice_index_or, All}
+use Rattle.std.specs.Prelude.{◌≡◌, ℕ, ◌<◌, true, List, [], map, length, take, None, Option, Result, slice_index_or, All}
 use Rattle.records.specs.declared.fault.Fault.{Fault}
 use Rattle.records.specs.declared.fault.Layer.TheVariants as layer
 use Rattle.records.specs.declared.record.Kind.{Kind}
@@ -8,7 +8,8 @@ use Rattle.records.specs.declared.record.Line.TheVariants as line
 use Rattle.records.specs.declared.record.NodeRecord.{NodeRecord}
 use Rattle.records.specs.declared.record.DefRecord.{DefRecord}
 use Rattle.records.specs.Breaks.{FirstBreak, Keep}
-use Rattle.records.specs.Faults.{Refusal, answer, refusal, told}
+use Rattle.records.specs.Faults.{Refusal, refusal}
+use Rattle.records.specs.Makings as making
 use Rattle.records.specs.Rules.{AllCalled, FirstUncalled, Records, breach, node_at, parts_in_limits}
 use Rattle.jobs.specs.declared.node.Node.{Node}
 use Rattle.jobs.specs.declared.node.Node.TheVariants.{Empty, Event, Seq, Choice, Frame, Call}
@@ -97,12 +98,9 @@ pub record Holds (nodes : List NodeRecord) (defs : List DefRecord) (table : Tabl
   pub sound : Sound (nodes_of table) (bodies_of table)
 
 -- what a making answers: a table where all rules are kept, else the refusal of the first break; or that memory is wanting, once all rules are kept
-pub data Makes (nodes : List NodeRecord) (defs : List DefRecord) : Result Table Fault → Type 0 where
-  made : {table : Table} → Kept nodes defs → Holds nodes defs table → Makes nodes defs (Ok table)
-  refused : {fault : Fault} → Broken nodes defs (told fault) → Makes nodes defs (Err fault)
-  no_memory : {fault : Fault} → Kept nodes defs → told fault ≡ refusal 99 layer.Table 0 → Makes nodes defs (Err fault)
+abbrev pub Makes : List NodeRecord → List DefRecord → Result Table Fault → Type 0
+Makes nodes defs = making.Makes (Kept nodes defs) (Broken nodes defs) (Holds nodes defs)
 
 -- a break has no other answer than its refusal, and records that keep all rules are refused for want of memory only
-pub record Only (nodes : List NodeRecord) (defs : List DefRecord) (r : Result Table Fault) : Type 0 where
-  pub broken : (tells : Refusal) → Broken nodes defs tells → answer r ≡ Some tells
-  pub kept : Kept nodes defs → (answer r ≡ None) ⊎ (answer r ≡ Some (refusal 99 layer.Table 0))
+abbrev pub Only : List NodeRecord → List DefRecord → Result Table Fault → Type 0
+Only nodes defs = making.Only (Kept nodes defs) (Broken nodes defs) (Holds nodes defs)

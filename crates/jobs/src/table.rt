@@ -21,14 +21,14 @@ impl Table {
     pub fn node(&self, n: u8) -> Option<Node>
         ensures { result ≡ slice_get self.now.nodes.items n }
     {
-        self.nodes.get(n as usize).copied()
+        self.nodes.get(usize::from(n)).copied()
     }
 
     // The body of this definition.
     pub fn body(&self, d: u8) -> Option<u8>
         ensures { result ≡ slice_get self.now.bodies.items d }
     {
-        self.bodies.get(d as usize).copied()
+        self.bodies.get(usize::from(d)).copied()
     }
 
     pub fn node_count(&self) -> usize

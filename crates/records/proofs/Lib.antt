@@ -3,3 +3,4 @@ pub mod Kept
 pub mod Numbers
 pub mod Told
 pub mod Breaks
+pub mod Makings

@@ -3,3 +3,4 @@ pub mod Faults
 pub mod Rules
 pub mod Written
 pub mod Breaks
+pub mod Makings

@@ -1,6 +1,6 @@
 use Rattle.std.proofs.Common.{refl}
 use Rattle.std.proofs.lemmas.Result.{err_from_is_err_and}
-use Rattle.jobs.specs.Making.{Makes}
+use Rattle.records.specs.Makings.{Makes}
 use Rattle.jobs.proofs.Exclusive.{only}
 use Rattle.jobs.proofs.Fits.{bodies_fit, nodes_fit, sound_as}
 use Rattle.jobs.proofs.table.Table.from_records.Goals as goal
