@@ -3,7 +3,7 @@
 
 pub mod display;
 pub mod fault;
-pub mod kinds;
+pub mod listed;
 pub mod laws;
 pub mod record;
 pub mod rules;

@@ -1,4 +1,4 @@
-// The kinds of records that a text may have many of.
+// Records of the kinds that a text may have many of.
 ghost use Rattle.std.specs.Prelude.{◌≡◌, List};
 ghost use Rattle.records.specs.Rules.{Records, held};
 ghost use Rattle.records.specs.declared.record.Kind.TheVariants as kind;
