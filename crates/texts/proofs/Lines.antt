@@ -1,11 +1,13 @@
 -- Lines as they are read. Assumes nothing.
-use Rattle.std.proofs.Common.{◌≡◌, ℕ, ◌+◌, ◌<◌, ◌≤◌, cond, eqb, List, ◌∷◌, length, get_or, drop, Some, None, Option, sym, refl, ap, ◌∙◌, arith, MatchOption}
-use Rattle.std.proofs.lemmas.List.{drop_more, drop_all, length-append, length-drop}
+use Rattle.std.proofs.Common.{◌≡◌, ℕ, ◌+◌, ◌-◌, ◌<◌, ◌≤◌, cond, eqb, List, [], ◌++◌, length, get_or, drop, Some, None, Option, MatchOption, Bor, sym, refl, ap, ◌∙◌, arith, append_assoc}
+use Rattle.std.proofs.lemmas.List.{length-append, length-drop, drop-drop}
+use Rattle.std.proofs.lemmas.List.Prefix.{front_rest}
 use Rattle.records.specs.declared.record.Kind.{Kind}
 use Rattle.records.specs.declared.record.Kind.TheVariants.{Empty, Event, Seq, Choice, Frame, Call}
 use Rattle.records.specs.declared.record.Line.{Line}
 use Rattle.records.specs.declared.record.Line.TheVariants.{Policy, Bad, Edge, Quota, Mark, Node, Def, Tariff}
-use Rattle.texts.specs.Lines.{letter_of, NoLetter, KindAt, NoKind, LineAt, line_of, NoLine, NoneOf}
+use Rattle.texts.specs.Fields.{Reads}
+use Rattle.texts.specs.Lines.{letter_of, kind_field, Begins, LineAt, line_of, NoneOf}
 
 pub lettered : ℕ → Kind
 lettered n = cond (eqb n 122) Empty (cond (eqb n 101) Event (cond (eqb n 115) Seq (cond (eqb n 99) Choice (cond (eqb n 102) Frame Call))))
@@ -23,35 +25,70 @@ back Call = refl
 pub same_letter : (j k : Kind) → letter_of j ≡ letter_of k → j ≡ k
 same_letter j k e = sym (back j) ∙ ap lettered e ∙ back k
 
-pub kind_at : (text : List ℕ) (at : ℕ) (kind : Kind) → at < length text → letter_of kind ≡ get_or text at 0 → KindAt text at kind (at + 1)
-kind_at text at kind lt is = record { within = omega arith; reads = drop_more text at 0 lt ∙ ap (λ b. b ∷ drop (at + 1) text) (sym is) }
+-- a kind is read in one way
+pub same_kind : (j k : Kind) (r s : List ℕ) → kind_field j r ≡ kind_field k s → (j ≡ k) × (r ≡ s)
+same_kind j k r s e = (same_letter j k (ap (λ l. get_or l 6 0) e), ap (λ l. drop 7 l) e)
 
-pub no_kind : (text : List ℕ) (at : ℕ) → at < length text → NoLetter (get_or text at 0) → NoKind text at
-no_kind text at lt none kind rest e = none kind (sym (ap (λ l. get_or l 0 0) (sym (drop_more text at 0 lt) ∙ e)))
+-- what is found first, or else next
+or_next : {X : Type 0} (Before Next : Type 0) (Found : X → Type 0) (a b : Option X) (Called : Type 0) → MatchOption a Before Found → MatchOption a Called (λ x. b ≡ Some x) → (Called → MatchOption b Next Found) → MatchOption b (Before × Next) Found
+or_next Before Next Found None None Called before called next = (before, next called)
+or_next Before Next Found None (Some y) Called before called next = next called
+or_next Before Next Found (Some x) b Called found same next = rw same found
 
-pub no_kind_past : (text : List ℕ) (at : ℕ) → length text ≤ at → NoKind text at
-no_kind_past text at past kind rest e = omega (arith, ap length (sym (drop_all at text past) ∙ e))
+module _ (text : List ℕ) where
+  abbrev pub Found : Line × Bor (List ℕ) → Type 0
+  Found p = Begins text p.0 p.1.now
 
-pub same_kind : {text : List ℕ} {at : ℕ} {j : Kind} {end : ℕ} → KindAt text at j end → (k : Kind) (rest : List ℕ) → drop at text ≡ letter_of k ∷ rest → (j ≡ k) × (drop end text ≡ rest)
-same_kind {j = j} found k rest e =
-    let same = sym found.reads ∙ e in
-    (same_letter j k (ap (λ l. get_or l 0 0) same), ap (λ l. drop 1 l) same)
+  -- a text that begins with no line of any of the eight begins with no line
+  no_line : NoneOf Node text → NoneOf Edge text → NoneOf Policy text → NoneOf Bad text → NoneOf Quota text → NoneOf Mark text → NoneOf Def text → NoneOf Tariff text → (line : Line) (rest : List ℕ) → ¬ (Begins text line rest)
+  no_line node edge policy bad quota mark def tariff (Policy r) = policy r
+  no_line node edge policy bad quota mark def tariff (Bad r) = bad r
+  no_line node edge policy bad quota mark def tariff (Edge r) = edge r
+  no_line node edge policy bad quota mark def tariff (Quota k) = quota k
+  no_line node edge policy bad quota mark def tariff (Mark r) = mark r
+  no_line node edge policy bad quota mark def tariff (Node r) = node r
+  no_line node edge policy bad quota mark def tariff (Def r) = def r
+  no_line node edge policy bad quota mark def tariff (Tariff r) = tariff r
 
-module _ (text : List ℕ) (at : ℕ) (policy : NoneOf Policy text at) (bad : NoneOf Bad text at) (edge : NoneOf Edge text at) (quota : NoneOf Quota text at) (mark : NoneOf Mark text at) (node : NoneOf Node text at) (def : NoneOf Def text at) where
-  no_line : NoneOf Tariff text at → NoLine text at
-  no_line tariff (Policy r) = policy r
-  no_line tariff (Bad r) = bad r
-  no_line tariff (Edge r) = edge r
-  no_line tariff (Quota k) = quota k
-  no_line tariff (Mark r) = mark r
-  no_line tariff (Node r) = node r
-  no_line tariff (Def r) = def r
-  no_line tariff (Tariff r) = tariff r
+  none_of_eight : (h : Option (Line × Bor (List ℕ))) → MatchOption h (((((((NoneOf Node text × NoneOf Edge text) × NoneOf Policy text) × NoneOf Bad text) × NoneOf Quota text) × NoneOf Mark text) × NoneOf Def text) × NoneOf Tariff text) Found → Reads (Begins text) h
+  none_of_eight None (((((((node, edge), policy), bad), quota), mark), def), tariff) = no_line node edge policy bad quota mark def tariff
+  none_of_eight (Some p) found = found
 
-  -- what is left when no other line stands here
-  pub line_from : (r : Option (Line × ℕ)) → MatchOption r (NoneOf Tariff text at) (λ p. LineAt text at p.0 p.1) → MatchOption r (NoLine text at) (λ p. LineAt text at p.0 p.1)
-  line_from None tariff = no_line tariff
-  line_from (Some q) found = found
+  -- the first of the eight that is read
+  pub first_of_eight : (a b c d e f g h : Option (Line × Bor (List ℕ))) (B C D E F G H : Type 0) → MatchOption a (NoneOf Node text) Found → MatchOption a B (λ x. b ≡ Some x) → (B → MatchOption b (NoneOf Edge text) Found) → MatchOption b C (λ x. c ≡ Some x) → (C → MatchOption c (NoneOf Policy text) Found) → MatchOption c D (λ x. d ≡ Some x) → (D → MatchOption d (NoneOf Bad text) Found) → MatchOption d E (λ x. e ≡ Some x) → (E → MatchOption e (NoneOf Quota text) Found) → MatchOption e F (λ x. f ≡ Some x) → (F → MatchOption f (NoneOf Mark text) Found) → MatchOption f G (λ x. g ≡ Some x) → (G → MatchOption g (NoneOf Def text) Found) → MatchOption g H (λ x. h ≡ Some x) → (H → MatchOption h (NoneOf Tariff text) Found) → Reads (Begins text) h
+  first_of_eight a b c d e f g h B C D E F G H node or_b edge or_c policy or_d bad or_e quota or_f mark or_g def or_h tariff =
+      let two = or_next (NoneOf Node text) (NoneOf Edge text) Found a b B node or_b edge in
+      let three = or_next _ (NoneOf Policy text) Found b c C two or_c policy in
+      let four = or_next _ (NoneOf Bad text) Found c d D three or_d bad in
+      let five = or_next _ (NoneOf Quota text) Found d e E four or_e quota in
+      let six = or_next _ (NoneOf Mark text) Found e f F five or_f mark in
+      let seven = or_next _ (NoneOf Def text) Found f g G six or_g def in
+      none_of_eight h (or_next _ (NoneOf Tariff text) Found g h H seven or_h tariff)
+
+-- a line, and then what follows
+line_then : (line : Line) (rest : List ℕ) → line_of line rest ≡ line_of line [] ++ rest
+line_then (Policy r) rest = simp append_assoc
+line_then (Bad r) rest = simp append_assoc
+line_then (Edge r) rest = simp append_assoc
+line_then (Quota k) rest = simp append_assoc
+line_then (Mark r) rest = simp append_assoc
+line_then (Node r) rest = simp append_assoc
+line_then (Def r) rest = simp append_assoc
+line_then (Tariff r) rest = simp append_assoc
+
+-- where a line of a text ends
+pub line_stands : (text : List ℕ) (at : ℕ) (line : Line) (rest : List ℕ) → at ≤ length text → Begins (drop at text) line rest → LineAt text at line (length text - length rest)
+line_stands text at line rest in_text found =
+    let whole = line_of line [] in
+    let reads = found.reads ∙ line_then line rest in
+    let long : length text ≡ at + length whole + length rest = omega (arith, length-drop at text, ap length reads, length-append whole rest) in
+    let end : length text - length rest ≡ at + length whole = omega arith in
+    let tail : drop (length text - length rest) text ≡ rest = rw (end, ← drop-drop) (front_rest (drop at text) whole rest reads) in
+    record {
+      formed = found.formed;
+      within = omega arith;
+      reads = rw tail found.reads;
+    }
 
 longer : (line : Line) (rest : List ℕ) → length rest < length (line_of line rest)
 longer (Policy r) rest = simp (length-append) (omega arith)

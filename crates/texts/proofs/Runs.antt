@@ -1,101 +1,90 @@
--- The digits at a place of a text. Assumes nothing.
-use Rattle.std.proofs.Common.{◌≡◌, ℕ, ◌+◌, ◌-◌, ◌^◌, ◌<◌, ◌≤◌, true, false, not, ◌&&◌, ◌||◌, eqb, leb, List, ◌++◌, length, get_or, take, drop, decimal, sym, ap, ◌∙◌, subst, ⊎_elim, add-zero, arith, eqb-true, leb-false, leb-true}
-use borrow.Author.Tests.{eqb-false, not-false, not-true}
-use Rattle.std.proofs.lemmas.Bool.{and_cases, and_parts, or_cases, or_parts}
-use Rattle.std.specs.Str.Parse.{digits_value, AllDigits as Digits}
+-- The digits that a text begins with. Assumes nothing.
+use Rattle.std.proofs.Common.{◌≡◌, ℕ, List, [], ◌∷◌, ◌++◌, length, take, drop, decimal, Ok, Result, true, false, refl, sym, ap, ◌∙◌, subst, ⊎_elim, arith, add-zero}
+use Rattle.std.specs.Char.{is_ascii_digit}
 use Rattle.std.specs.Int.{IsInRange}
+use Rattle.std.specs.List.{prefix_len, take_while}
+use Rattle.std.specs.Str.{IsAscii, IsUtf8}
+use Rattle.std.specs.Str.Parse.{digits_value, AllDigits, ParsesUnsigned}
+use Rattle.std.proofs.lemmas.Bool.Decides.{nat_tests}
 use Rattle.std.proofs.lemmas.Fmt.{length-decimal-le, decimal_nonempty, first_decimal, decimal-digits_value}
-use Rattle.std.proofs.lemmas.List.{get_or-take, get_or-drop, length-take-le, length-drop, take-append-drop, drop-drop}
-use Rattle.std.proofs.lemmas.Str.Parse.{numerals_by_value, tells_by_index, digits_value_short}
+use Rattle.std.proofs.lemmas.List.{take-append-drop, get_or-take, get_or-drop, get_or_past}
+use Rattle.std.proofs.lemmas.List.Folds.{length-prefix_len}
+use Rattle.std.proofs.lemmas.List.Sums.{prefix_len_passes, prefix_len_stops}
+use Rattle.std.proofs.lemmas.Str.{IsUtf8-from_ascii}
+use Rattle.std.proofs.lemmas.Str.Ascii.{IsAscii-nil, IsAscii-cons}
+use Rattle.std.proofs.lemmas.Str.Parse.{digits_value_short, digit_from_value, numerals_by_value, tells_by_index, parse_gives}
 use Rattle.std.proofs.str.Laws.{order}
 use Rattle.records.specs.Written.{written}
 use Rattle.records.proofs.Numbers.{written_is}
-use Rattle.texts.specs.Fields.{Small, Past, Run, NoNumber, Number, spelled}
+use Rattle.texts.specs.Fields.{Small, Past, IsSpelled, Number}
 use Rattle.texts.proofs.Numbers.{own, same_run, written_digits}
 
-abbrev pub AllDigits : List ℕ → Type 0
-AllDigits ds = (i : ℕ) → i < length ds → IsInRange 48 57 (get_or ds i 0)
+decimal_is_spelled : (n : ℕ) → Small n → IsSpelled (decimal n)
+decimal_is_spelled n small =
+    record {
+      some = decimal_nonempty n (omega arith);
+      few = length-decimal-le 10 n (omega arith) small (omega arith);
+      lead = λ zero. ⊎_elim (λ some. absurd (omega (arith, first_decimal n some (omega arith), zero))) (λ none. omega (arith, length-decimal-le 1 n (omega arith) (omega arith) (omega arith), decimal_nonempty n (omega arith))) (order 0 n);
+    }
 
-pub digits_by_index : (ds : List ℕ) → AllDigits ds → Digits 10 ds
-digits_by_index ds all = (numerals_by_value AllDigits tells_by_index).to ds all
+digits_are_ascii : (ds : List ℕ) → AllDigits 10 ds → IsAscii ds
+digits_are_ascii [] all = IsAscii-nil
+digits_are_ascii (c ∷ cs) all = IsAscii-cons c cs (omega (arith, digit_from_value c all.0)) (digits_are_ascii cs all.1)
 
--- the value of fewer than ten digits
-pub front_small : (ds : List ℕ) (i : ℕ) → AllDigits ds → length ds ≤ 10 → i < length ds → digits_value 10 (take i ds) < 10 ^ 9
-front_small ds i all few lt =
-    let long = length-take-le i ds (omega arith) in
-    digits_value_short own (take i ds) 9 (digits_by_index (take i ds) (λ k h. subst (IsInRange 48 57) (sym (get_or-take i ds k 0 (omega arith))) (all k (omega arith)))) (omega arith)
+pub digits_are_utf8 : (ds : List ℕ) → AllDigits 10 ds → IsUtf8 ds
+digits_are_utf8 ds all = IsUtf8-from_ascii ds (digits_are_ascii ds all)
 
-module _ {text : List ℕ} {at end : ℕ} (run : Run text at end) where
-  abbrev pub part : List ℕ
-  part = take (end - at) (drop at text)
+small_value : (ds : List ℕ) → AllDigits 10 ds → IsSpelled ds → Small (digits_value 10 ds)
+small_value ds all good = digits_value_short own ds 10 all good.few
 
-  part_length : length part ≡ end - at
-  part_length = length-take-le (end - at) (drop at text) (omega (arith, length-drop at text, run.after, run.within))
+pub digits_parse : {E : Type 0} (ds : List ℕ) (r : Result ℕ E) → ParsesUnsigned 64 10 ds r → AllDigits 10 ds → IsSpelled ds → r ≡ Ok (digits_value 10 ds)
+digits_parse ds r parses all good = parse_gives own 64 ds r parses all good.some (omega (arith, small_value ds all good))
 
-  pub part_digits : AllDigits part
-  part_digits i h =
-      subst (IsInRange 48 57) (sym (get_or-take (end - at) (drop at text) i 0 (omega (arith, part_length)) ∙ get_or-drop at text i 0))
-      (run.digits (at + i) (omega arith) (omega (arith, part_length, run.after)))
+is_digit : (c : ℕ) → is_ascii_digit c ≡ true → IsInRange 48 57 c
+is_digit c e = grind (arith, nat_tests)
 
-  part_split : drop at text ≡ part ++ drop end text
-  part_split =
-      let back : at + (end - at) ≡ end = omega (arith, run.after) in
-      sym (take-append-drop (end - at) (drop at text)) ∙ ap (λ r. part ++ r) (drop-drop (end - at) at text ∙ ap (λ k. drop k text) back)
+no_digit : (c : ℕ) → is_ascii_digit c ≡ false → ¬ (IsInRange 48 57 c)
+no_digit c e h = grind (arith, nat_tests)
 
-  part_past : Past (drop end text)
-  part_past h = run.stops (subst (IsInRange 48 57) (get_or-drop end text 0 0 ∙ ap (λ k. get_or text k 0) (add-zero end)) h)
+module _ (text : List ℕ) where
+  abbrev pub digits : List ℕ
+  digits = take_while is_ascii_digit text
 
-  only : (n : ℕ) (rest : List ℕ) → Small n → Past rest → drop at text ≡ written n ++ rest → part ≡ decimal n
-  only n rest small past e =
-      (same_run part (written n) (drop end text) rest (digits_by_index part part_digits) (written_digits n small) part_past past (sym part_split ∙ e)).0 ∙ written_is n (omega arith)
+  abbrev pub behind : List ℕ
+  behind = drop (length digits) text
 
-  none_empty : length part ≡ 0 → NoNumber text at
-  none_empty none n rest small past e = absurd (omega (arith, ap length (only n rest small past e), decimal_nonempty n (omega arith)))
+  pub front : take (length digits) text ≡ digits
+  front = rw length-prefix_len refl
 
-  none_long : 10 < length part → NoNumber text at
-  none_long long n rest small past e =
-      absurd (omega (arith, ap length (only n rest small past e), length-decimal-le 10 n (omega arith) small (omega arith)))
+  split : text ≡ digits ++ behind
+  split = rw length-prefix_len (sym (take-append-drop (prefix_len is_ascii_digit text) text))
 
-  none_zero : get_or part 0 0 ≡ 48 → (length part ≡ 1 → ⊥) → NoNumber text at
-  none_zero zero more n rest small past e =
-      let same = only n rest small past e in
+  pub all_digits : AllDigits 10 digits
+  all_digits =
+      (numerals_by_value _ tells_by_index).to digits
+      (λ i h.
+      let lt = rw length-prefix_len at h in
+      rw get_or-take (is_digit _ (prefix_len_passes is_ascii_digit text i 0 lt)))
+
+  past_digits : Past behind
+  past_digits =
       ⊎_elim
-      (λ some. absurd (omega (arith, first_decimal n some (omega arith), ap (λ l. get_or l 0 0) same)))
-      (λ none. absurd (more (omega (arith, ap length same, length-decimal-le 1 n (omega arith) (omega arith) (omega arith), decimal_nonempty n (omega arith)))))
-      (order 0 n)
+      (λ lt. rw (length-prefix_len, get_or-drop, add-zero) (no_digit _ (prefix_len_stops is_ascii_digit text 0 lt)))
+      (λ le. rw (length-prefix_len, get_or-drop, add-zero, get_or_past text (prefix_len is_ascii_digit text) 0 le) (λ h. omega (arith, h)))
+      (order (prefix_len is_ascii_digit text) (length text))
 
-  -- the tests of a number, one after another
-  pub none_spelled : spelled part ≡ false → NoNumber text at
-  none_spelled e =
-      ⊎_elim (λ empty. none_empty (eqb-true (length part) 0 (not-false (eqb (length part) 0) empty)))
-      (λ others.
-      ⊎_elim (λ long. none_long (leb-false (length part) 10 long))
-      (λ lead. let both = or_parts (not (eqb (get_or part 0 0) 48)) _ lead in none_zero (eqb-true (get_or part 0 0) 48 (not-false (eqb (get_or part 0 0) 48) both.0)) (eqb-false (length part) 1 both.1))
-      (and_cases (leb (length part) 10) _ others))
-      (and_cases (not (eqb (length part) 0)) _ e)
+  -- where the text begins with a number, these are its digits
+  pub number_is_spelled : {n : ℕ} {rest : List ℕ} → Number text n rest → IsSpelled digits
+  number_is_spelled {n} {rest} number =
+      let same = same_run digits (written n) behind rest all_digits (written_digits n number.small) past_digits number.past (sym split ∙ number.reads) in
+      subst IsSpelled (sym (same.0 ∙ written_is n (omega (arith, number.small)))) (decimal_is_spelled n number.small)
 
-  module _ (good : spelled part ≡ true) where
-    tests : (leb (length part) 10 && (not (eqb (get_or part 0 0) 48) || eqb (length part) 1)) ≡ true
-    tests = (and_parts (not (eqb (length part) 0)) _ good).1
-
-    pub few : length part ≤ 10
-    few = leb-true (length part) 10 (and_parts (leb (length part) 10) _ tests).0
-
-    more : 0 < length part
-    more = omega (arith, eqb-false (length part) 0 (not-true (eqb (length part) 0) (and_parts (not (eqb (length part) 0)) _ good).0))
-
-    lead : get_or part 0 0 ≡ 48 → length part ≡ 1
-    lead zero =
-        ⊎_elim (λ other. absurd (eqb-false (get_or part 0 0) 48 (not-true (eqb (get_or part 0 0) 48) other) zero)) (λ one. eqb-true (length part) 1 one)
-        (or_cases (not (eqb (get_or part 0 0) 48)) _ (and_parts (leb (length part) 10) _ tests).1)
-
-    pub some : Number text at (digits_value 10 part) end
-    some =
-        let small : Small (digits_value 10 part) = digits_value_short own part 10 (digits_by_index part part_digits) few in
-        let back = decimal-digits_value own part (digits_by_index part part_digits) more lead (omega arith) in
-        record {
-          small = small;
-          within = run.within;
-          reads = part_split ∙ ap (λ l. l ++ drop end text) (sym (written_is _ (omega arith) ∙ back));
-          past = part_past;
-        }
+  pub number_from_digits : IsSpelled digits → Number text (digits_value 10 digits) behind
+  number_from_digits good =
+      let small = small_value digits all_digits good in
+      let back = decimal-digits_value own digits all_digits good.some good.lead (omega (arith, small)) in
+      record {
+        small = small;
+        past = past_digits;
+        reads = split ∙ ap (λ l. l ++ behind) (sym (written_is _ (omega (arith, small)) ∙ back));
+      }

@@ -18,6 +18,10 @@ letter_of Call = 100
 abbrev pub NoLetter : ℕ → Type 0
 NoLetter letter = (kind : Kind) → letter_of kind ≢ letter
 
+-- the key and the letter of a kind, and what follows
+abbrev pub kind_field : Kind → List ℕ → List ℕ
+kind_field kind rest = codes " kind=" ++ (letter_of kind ∷ rest)
+
 -- the line of a record, and what follows
 abbrev pub line_of : Line → List ℕ → List ℕ
 line_of (Policy r) rest = field (codes "policy=") r.policy (field (codes " states=") r.states (field (codes " start=") r.start (10 ∷ rest)))
@@ -27,7 +31,7 @@ line_of (Edge r) rest =
 line_of (Quota k) rest = field (codes "quota=") k (10 ∷ rest)
 line_of (Mark r) rest = field (codes "mark=") r.event (10 ∷ rest)
 line_of (Node r) rest =
-    field (codes "node=") r.node (codes " kind=" ++ (letter_of r.kind ∷ field (codes " a=") r.a (field (codes " b=") r.b (10 ∷ rest))))
+    field (codes "node=") r.node (kind_field r.kind (field (codes " a=") r.a (field (codes " b=") r.b (10 ∷ rest))))
 line_of (Def r) rest = field (codes "def=") r.def (field (codes " node=") r.node (10 ∷ rest))
 line_of (Tariff r) rest = field (codes "tariff=") r.event (field (codes " cost=") r.cost (10 ∷ rest))
 
@@ -57,21 +61,18 @@ pub record LineAt (text : List ℕ) (at : ℕ) (line : Line) (end : ℕ) : Type 
   pub within : end ≤ length text
   pub reads : drop at text ≡ line_of line (drop end text)
 
--- no line that is made so stands at `at`
-abbrev pub NoneOf : {R : Type 0} → (R → Line) → List ℕ → ℕ → Type 0
-NoneOf {R} make text at = (r : R) (rest : List ℕ) → Formed (make r) → drop at text ≢ line_of (make r) rest
+-- the text begins with this line
+pub record Begins (text : List ℕ) (line : Line) (rest : List ℕ) : Type 0 where
+  pub formed : Formed line
+  pub reads : text ≡ line_of line rest
+
+-- the text begins with no line that is made so
+abbrev pub NoneOf : {R : Type 0} → (R → Line) → List ℕ → Type 0
+NoneOf {R} make text = (r : R) (rest : List ℕ) → ¬ (Begins text (make r) rest)
 
 -- no line of any record stands at `at`
 abbrev pub NoLine : List ℕ → ℕ → Type 0
 NoLine text at = (line : Line) (rest : List ℕ) → Formed line → drop at text ≢ line_of line rest
-
--- the letter of the kind stands at `at`, and `end` is behind it
-pub record KindAt (text : List ℕ) (at : ℕ) (kind : Kind) (end : ℕ) : Type 0 where
-  pub within : end ≤ length text
-  pub reads : drop at text ≡ letter_of kind ∷ drop end text
-
-abbrev pub NoKind : List ℕ → ℕ → Type 0
-NoKind text at = (kind : Kind) (rest : List ℕ) → drop at text ≢ letter_of kind ∷ rest
 
 -- the line is that of node n
 abbrev pub is_node : ℕ → Line → Bool

@@ -1,9 +1,10 @@
 // One line of a text.
 ghost use Rattle.std.specs.Prelude.{◌≡◌, ◌≤◌, length, MatchOption};
 ghost use Rattle.records.specs.declared.record.Line.TheVariants.{Policy, Bad, Edge, Quota, Mark, Node, Def, Tariff};
-ghost use Rattle.texts.specs.Lines.{KindAt, LineAt, NoKind, NoLetter, NoLine, NoneOf, letter_of, unused};
+ghost use Rattle.texts.specs.Fields.{Reads};
+ghost use Rattle.texts.specs.Lines.{Begins, LineAt, NoLetter, NoLine, NoneOf, kind_field, letter_of, unused};
 
-use crate::number::{field, last_field, last_pair, word};
+use crate::number::{field, last_field};
 use records::record::{
     BadRecord, DefRecord, EdgeRecord, Kind, Line, MarkRecord, NodeRecord, PolicyRecord,
     TariffRecord,
@@ -24,16 +25,12 @@ fn kind_of(letter: u8) -> Option<Kind>
     }
 }
 
-// The kind whose letter stands at `at`, and where it ends.
-fn kind_at(text: &[u8], at: usize) -> Option<(Kind, usize)>
-    requires { at ≤ length text.now }
-    ensures { MatchOption result (NoKind text.now at) (λ p. KindAt text.now at p.0 p.1) }
+// The kind whose letter stands behind its key.
+fn kind(text: &[u8]) -> Option<(Kind, &[u8])>
+    ensures { Reads (λ kind rest. text.now ≡ kind_field kind rest) result }
 {
-    if at >= text.len() {
-        return None;
-    }
-    let kind = kind_of(text[at])?;
-    Some((kind, at + 1))
+    let (letter, rest) = text.strip_prefix(b" kind=")?.split_first()?;
+    Some((kind_of(*letter)?, rest))
 }
 
 // Whether the fields that this kind does not use are 0.
@@ -47,92 +44,99 @@ fn unused_are_zero(kind: Kind, a: u64, b: u64) -> bool
     }
 }
 
-fn policy_line(text: &[u8], at: usize) -> Option<(Line, usize)>
-    requires { at ≤ length text.now }
-    ensures { MatchOption result (NoneOf Policy text.now at) (λ p. LineAt text.now at p.0 p.1) }
+fn policy_line(text: &[u8]) -> Option<(Line, &[u8])>
+    ensures { MatchOption result (NoneOf Policy text.now) (λ p. Begins text.now p.0 p.1.now) }
 {
-    let (policy, at) = field(text, at, b"policy=")?;
-    let (states, start, end) = last_pair(text, at, b" states=", b" start=")?;
-    Some((
-        Line::Policy(PolicyRecord {
-            policy,
-            states,
-            start,
-        }),
-        end,
-    ))
+    let (policy, rest) = field(text, b"policy=")?;
+    let (states, rest) = field(rest, b" states=")?;
+    let (start, rest) = last_field(rest, b" start=")?;
+    let record = PolicyRecord {
+        policy,
+        states,
+        start,
+    };
+    Some((Line::Policy(record), rest))
 }
 
-fn bad_line(text: &[u8], at: usize) -> Option<(Line, usize)>
-    requires { at ≤ length text.now }
-    ensures { MatchOption result (NoneOf Bad text.now at) (λ p. LineAt text.now at p.0 p.1) }
+fn bad_line(text: &[u8]) -> Option<(Line, &[u8])>
+    ensures { MatchOption result (NoneOf Bad text.now) (λ p. Begins text.now p.0 p.1.now) }
 {
-    let (policy, state, end) = last_pair(text, at, b"bad=", b" state=")?;
-    Some((Line::Bad(BadRecord { policy, state }), end))
+    let (policy, rest) = field(text, b"bad=")?;
+    let (state, rest) = last_field(rest, b" state=")?;
+    Some((Line::Bad(BadRecord { policy, state }), rest))
 }
 
-fn edge_line(text: &[u8], at: usize) -> Option<(Line, usize)>
-    requires { at ≤ length text.now }
-    ensures { MatchOption result (NoneOf Edge text.now at) (λ p. LineAt text.now at p.0 p.1) }
+fn edge_line(text: &[u8]) -> Option<(Line, &[u8])>
+    ensures { MatchOption result (NoneOf Edge text.now) (λ p. Begins text.now p.0 p.1.now) }
 {
-    let (policy, at) = field(text, at, b"edge=")?;
-    let (from, at) = field(text, at, b" from=")?;
-    let (event, to, end) = last_pair(text, at, b" event=", b" to=")?;
-    Some((
-        Line::Edge(EdgeRecord {
-            policy,
-            from,
-            event,
-            to,
-        }),
-        end,
-    ))
+    let (policy, rest) = field(text, b"edge=")?;
+    let (from, rest) = field(rest, b" from=")?;
+    let (event, rest) = field(rest, b" event=")?;
+    let (to, rest) = last_field(rest, b" to=")?;
+    let record = EdgeRecord {
+        policy,
+        from,
+        event,
+        to,
+    };
+    Some((Line::Edge(record), rest))
 }
 
-fn quota_line(text: &[u8], at: usize) -> Option<(Line, usize)>
-    requires { at ≤ length text.now }
-    ensures { MatchOption result (NoneOf Quota text.now at) (λ p. LineAt text.now at p.0 p.1) }
+fn quota_line(text: &[u8]) -> Option<(Line, &[u8])>
+    ensures { MatchOption result (NoneOf Quota text.now) (λ p. Begins text.now p.0 p.1.now) }
 {
-    let (quota, end) = last_field(text, at, b"quota=")?;
-    Some((Line::Quota(quota), end))
+    let (quota, rest) = last_field(text, b"quota=")?;
+    Some((Line::Quota(quota), rest))
 }
 
-fn mark_line(text: &[u8], at: usize) -> Option<(Line, usize)>
-    requires { at ≤ length text.now }
-    ensures { MatchOption result (NoneOf Mark text.now at) (λ p. LineAt text.now at p.0 p.1) }
+fn mark_line(text: &[u8]) -> Option<(Line, &[u8])>
+    ensures { MatchOption result (NoneOf Mark text.now) (λ p. Begins text.now p.0 p.1.now) }
 {
-    let (event, end) = last_field(text, at, b"mark=")?;
-    Some((Line::Mark(MarkRecord { event }), end))
+    let (event, rest) = last_field(text, b"mark=")?;
+    Some((Line::Mark(MarkRecord { event }), rest))
 }
 
-fn node_line(text: &[u8], at: usize) -> Option<(Line, usize)>
-    requires { at ≤ length text.now }
-    ensures { MatchOption result (NoneOf Node text.now at) (λ p. LineAt text.now at p.0 p.1) }
+fn node_line(text: &[u8]) -> Option<(Line, &[u8])>
+    ensures { MatchOption result (NoneOf Node text.now) (λ p. Begins text.now p.0 p.1.now) }
 {
-    let (node, at) = field(text, at, b"node=")?;
-    let letter = word(text, at, b" kind=")?;
-    let (kind, at) = kind_at(text, letter)?;
-    let (a, b, end) = last_pair(text, at, b" a=", b" b=")?;
+    let (node, rest) = field(text, b"node=")?;
+    let (kind, rest) = kind(rest)?;
+    let (a, rest) = field(rest, b" a=")?;
+    let (b, rest) = last_field(rest, b" b=")?;
     if !unused_are_zero(kind, a, b) {
         return None;
     }
-    Some((Line::Node(NodeRecord { node, kind, a, b }), end))
+    Some((Line::Node(NodeRecord { node, kind, a, b }), rest))
 }
 
-fn def_line(text: &[u8], at: usize) -> Option<(Line, usize)>
-    requires { at ≤ length text.now }
-    ensures { MatchOption result (NoneOf Def text.now at) (λ p. LineAt text.now at p.0 p.1) }
+fn def_line(text: &[u8]) -> Option<(Line, &[u8])>
+    ensures { MatchOption result (NoneOf Def text.now) (λ p. Begins text.now p.0 p.1.now) }
 {
-    let (def, node, end) = last_pair(text, at, b"def=", b" node=")?;
-    Some((Line::Def(DefRecord { def, node }), end))
+    let (def, rest) = field(text, b"def=")?;
+    let (node, rest) = last_field(rest, b" node=")?;
+    Some((Line::Def(DefRecord { def, node }), rest))
 }
 
-fn tariff_line(text: &[u8], at: usize) -> Option<(Line, usize)>
-    requires { at ≤ length text.now }
-    ensures { MatchOption result (NoneOf Tariff text.now at) (λ p. LineAt text.now at p.0 p.1) }
+fn tariff_line(text: &[u8]) -> Option<(Line, &[u8])>
+    ensures { MatchOption result (NoneOf Tariff text.now) (λ p. Begins text.now p.0 p.1.now) }
 {
-    let (event, cost, end) = last_pair(text, at, b"tariff=", b" cost=")?;
-    Some((Line::Tariff(TariffRecord { event, cost }), end))
+    let (event, rest) = field(text, b"tariff=")?;
+    let (cost, rest) = last_field(rest, b" cost=")?;
+    Some((Line::Tariff(TariffRecord { event, cost }), rest))
+}
+
+// The line that the text begins with.
+fn first_line(text: &[u8]) -> Option<(Line, &[u8])>
+    ensures { Reads (Begins text.now) result }
+{
+    node_line(text)
+        .or_else(|| edge_line(text))
+        .or_else(|| policy_line(text))
+        .or_else(|| bad_line(text))
+        .or_else(|| quota_line(text))
+        .or_else(|| mark_line(text))
+        .or_else(|| def_line(text))
+        .or_else(|| tariff_line(text))
 }
 
 // The line that begins at `at`, and where it ends.
@@ -140,26 +144,6 @@ pub(crate) fn line_at(text: &[u8], at: usize) -> Option<(Line, usize)>
     requires { at ≤ length text.now }
     ensures { MatchOption result (NoLine text.now at) (λ p. LineAt text.now at p.0 p.1) }
 {
-    if let Some(found) = node_line(text, at) {
-        return Some(found);
-    }
-    if let Some(found) = edge_line(text, at) {
-        return Some(found);
-    }
-    if let Some(found) = policy_line(text, at) {
-        return Some(found);
-    }
-    if let Some(found) = bad_line(text, at) {
-        return Some(found);
-    }
-    if let Some(found) = quota_line(text, at) {
-        return Some(found);
-    }
-    if let Some(found) = mark_line(text, at) {
-        return Some(found);
-    }
-    if let Some(found) = def_line(text, at) {
-        return Some(found);
-    }
-    tariff_line(text, at)
+    let (line, rest) = first_line(&text[at..])?;
+    Some((line, text.len() - rest.len()))
 }

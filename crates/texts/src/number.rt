@@ -1,97 +1,54 @@
-// Numbers and fields of a line.
-ghost use Rattle.std.specs.Prelude.{◌≡◌, ℕ, ◌<◌, ◌≤◌, List, ◌++◌, length, MatchOption, slice_index};
-ghost use Rattle.std.specs.Str.Parse.{digits_value};
-ghost use Rattle.std.specs.Int.{IsInRange};
-ghost use Rattle.texts.specs.Fields.{Field, LastField, LastPair, NoField, NoLastField, NoLastPair, NoNumber, NoWord, Number, Past, Run, Stands, spelled};
+// Numbers and fields that a text begins with; each function answers what it read with the bytes behind it.
+ghost use Rattle.std.specs.Prelude.{◌≡◌, ◌↔◌, ◌∷◌, IsTrue, length, take_while};
+ghost use Rattle.std.specs.Char.{is_ascii_digit};
+ghost use Rattle.std.specs.Option.{SomeIff};
+ghost use Rattle.std.specs.Str.Parse.{AllDigits, digits_value};
+ghost use Rattle.texts.specs.Fields.{Field, IsSpelled, Number, Reads};
 
-// The end of the digits that begin at `at`.
-fn digits_end(text: &[u8], at: usize) -> usize
-    requires { at ≤ length text.now }
-    ensures { Run text.now at result }
+// How many digits the text begins with.
+fn digits_len(text: &[u8]) -> usize
+    ensures { result ≡ length (take_while is_ascii_digit text.now) }
 {
-    let mut end = at;
-    while end < text.len() && text[end].is_ascii_digit() {
-        end += 1;
-    }
-    end
-}
-
-// The number that at most ten digits write.
-fn value_of(digits: &[u8]) -> u64
-    requires few { length digits.now ≤ 10 }
-    requires all { (k : ℕ) → k < length digits.now → IsInRange 48 57 (slice_index digits.now k) }
-    ensures { result ≡ digits_value 10 digits.now }
-{
-    let mut number = 0;
-    for digit in digits {
-        number = number * 10 + u64::from(*digit - b'0');
-    }
-    number
+    text.iter().take_while(|byte| byte.is_ascii_digit()).count()
 }
 
 // Whether these digits write a number: one to ten of them, and no 0 in front of others.
 fn is_spelled(digits: &[u8]) -> bool
-    ensures { result ≡ spelled digits.now }
+    ensures { IsTrue result ↔ IsSpelled digits.now }
 {
     !digits.is_empty() && digits.len() <= 10 && (digits[0] != b'0' || digits.len() == 1)
 }
 
-// The number that is written at `at`, and where it ends.
-fn number(text: &[u8], at: usize) -> Option<(u64, usize)>
-    requires { at ≤ length text.now }
-    ensures { MatchOption result (NoNumber text.now at) (λ p. Number text.now at p.0 p.1) }
+// The number that these digits write, if they write one.
+fn value_of(digits: &[u8]) -> Option<u64>
+    requires { AllDigits 10 digits.now }
+    ensures { SomeIff result (IsSpelled digits.now) (digits_value 10 digits.now) }
 {
-    let end = digits_end(text, at);
-    let digits = &text[at..end];
     if !is_spelled(digits) {
         return None;
     }
-    Some((value_of(digits), end))
+    str::from_utf8(digits).ok()?.parse().ok()
 }
 
-// Where the word ends, if it stands at `at`.
-pub(crate) fn word(text: &[u8], at: usize, word: &[u8]) -> Option<usize>
-    requires { at ≤ length text.now }
-    ensures { MatchOption result (NoWord text.now at word.now) (λ end. Stands text.now at word.now end) }
+// The number that the text begins with.
+fn number(text: &[u8]) -> Option<(u64, &[u8])>
+    ensures { Reads (Number text.now) result }
 {
-    if text[at..].starts_with(word) {
-        Some(at + word.len())
-    } else {
-        None
-    }
+    let (digits, rest) = text.split_at(digits_len(text));
+    Some((value_of(digits)?, rest))
 }
 
-// The number behind the key that stands at `at`, and where it ends.
-pub(crate) fn field(text: &[u8], at: usize, key: &[u8]) -> Option<(u64, usize)>
-    requires { at ≤ length text.now }
-    ensures { MatchOption result (NoField text.now at key.now) (λ p. Field text.now at key.now p.0 p.1) }
+// The number behind this key.
+pub(crate) fn field<'a>(text: &'a [u8], key: &[u8]) -> Option<(u64, &'a [u8])>
+    ensures { Reads (Field text.now key.now) result }
 {
-    let start = word(text, at, key)?;
-    number(text, start)
+    number(text.strip_prefix(key)?)
 }
 
-// The number behind the last key of a line, and where the line ends.
-pub(crate) fn last_field(text: &[u8], at: usize, key: &[u8]) -> Option<(u64, usize)>
-    requires { at ≤ length text.now }
-    ensures { MatchOption result (NoLastField text.now at key.now) (λ p. LastField text.now at key.now p.0 p.1) }
+// The number behind the last key of a line, up to the line's end.
+pub(crate) fn last_field<'a>(text: &'a [u8], key: &[u8]) -> Option<(u64, &'a [u8])>
+    ensures { Reads (λ n rest. Field text.now key.now n (10 ∷ rest)) result }
 {
-    let (number, at) = field(text, at, key)?;
-    let end = word(text, at, b"\n")?;
-    Some((number, end))
-}
-
-// The numbers behind the last two keys of a line, and where the line ends.
-pub(crate) fn last_pair(
-    text: &[u8],
-    at: usize,
-    first: &[u8],
-    second: &[u8],
-) -> Option<(u64, u64, usize)>
-    requires inside { at ≤ length text.now }
-    requires apart { (rest : List ℕ) → Past (second.now ++ rest) }
-    ensures { MatchOption result (NoLastPair text.now at first.now second.now) (λ p. LastPair text.now at first.now second.now p.0 p.1 p.2) }
-{
-    let (one, at) = field(text, at, first)?;
-    let (other, end) = last_field(text, at, second)?;
-    Some((one, other, end))
+    let (number, rest) = field(text, key)?;
+    Some((number, rest.strip_prefix(b"\n")?))
 }

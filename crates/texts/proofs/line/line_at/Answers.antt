@@ -1,6 +1,6 @@
-use Rattle.texts.proofs.Lines.{line_from}
+use Rattle.std.proofs.lemmas.List.{take_rest}
+use Rattle.texts.proofs.Lines.{line_stands}
 use Rattle.texts.proofs.line.line_at.Goals as goal
 
 pub returns : goal.returns
-returns c =
-    line_from c.args.text.now c.args.at c.in_default-policy_line.ensures c.in_default-bad_line.ensures c.in_default-edge_line.ensures c.in_default-quota_line.ensures c.in_default-mark_line.ensures c.in_default.ensures c.in_default-def_line.ensures _ c.tariff_line.ensures
+returns c = line_stands c.args.text.now c.args.at _ _ c.requires (rw take_rest at c.in_ok-line.ensures)

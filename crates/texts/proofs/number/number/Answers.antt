@@ -1,19 +1,15 @@
-use Rattle.std.proofs.Common.{sym, ◌∙◌, subst}
-use Rattle.texts.specs.Fields.{Number}
-use Rattle.texts.proofs.Runs.{few, part_digits, none_spelled, some}
+use Rattle.texts.proofs.Runs.{all_digits, front, number_is_spelled, number_from_digits}
 use Rattle.texts.proofs.number.number.Goals as goal
 
-pub returns-then-not-is_spelled : goal.returns-then-not-is_spelled
-returns-then-not-is_spelled c = none_spelled c.digits_end-end.ensures (sym c.is_spelled.ensures ∙ c.if-not-is_spelled.true)
-
 pub value_of-requires : goal.value_of-requires
-value_of-requires c =
-    record {
-      few = few c.digits_end-end.ensures (sym c.is_spelled.ensures ∙ c.if-not-is_spelled.false);
-      all = part_digits c.digits_end-end.ensures;
-    }
+value_of-requires c = rw (c.split_at.ensures.front, c.digits_len.ensures, front) (all_digits c.args.text.now)
+
+pub returns-in_err-value_of : goal.returns-in_err-value_of
+returns-in_err-value_of c =
+    rw c.from_residual.ensures (λ n rest found.
+    c.in_err-value_of.ensures (rw (c.split_at.ensures.front, c.digits_len.ensures, front) (number_is_spelled c.args.text.now found)))
 
 pub returns : goal.returns
 returns c =
-    subst (λ n. Number c.args.text.now c.args.at n c.digits_end-end.result) (sym c.value_of.ensures)
-    (some c.digits_end-end.ensures (sym c.is_spelled.ensures ∙ c.if-not-is_spelled.false))
+    let is = rw (c.split_at.ensures.front, c.digits_len.ensures, front) at c.in_ok-value_of.ensures in
+    rw (is.1, c.split_at.ensures.back, c.digits_len.ensures) (number_from_digits c.args.text.now is.0)
