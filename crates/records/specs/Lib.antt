@@ -4,3 +4,4 @@ pub mod Rules
 pub mod Written
 pub mod Breaks
 pub mod Makings
+pub mod Kinds

@@ -3,7 +3,8 @@
 
 pub mod display;
 pub mod fault;
-pub mod listed;
+pub mod kind;
 pub mod laws;
+pub mod listed;
 pub mod record;
 pub mod rules;

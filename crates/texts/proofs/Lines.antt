@@ -6,8 +6,9 @@ use Rattle.records.specs.declared.record.Kind.{Kind}
 use Rattle.records.specs.declared.record.Kind.TheVariants.{Empty, Event, Seq, Choice, Frame, Call}
 use Rattle.records.specs.declared.record.Line.{Line}
 use Rattle.records.specs.declared.record.Line.TheVariants.{Policy, Bad, Edge, Quota, Mark, Node, Def, Tariff}
+use Rattle.records.specs.Kinds.{letter_of}
 use Rattle.texts.specs.Fields.{Reads}
-use Rattle.texts.specs.Lines.{letter_of, kind_field, Begins, LineAt, line_of, NoneOf}
+use Rattle.texts.specs.Lines.{kind_field, Begins, LineAt, line_of, NoneOf}
 
 pub lettered : ℕ → Kind
 lettered n = cond (eqb n 122) Empty (cond (eqb n 101) Event (cond (eqb n 115) Seq (cond (eqb n 99) Choice (cond (eqb n 102) Frame Call))))

@@ -4,19 +4,8 @@ use Rattle.records.specs.declared.record.Kind.{Kind}
 use Rattle.records.specs.declared.record.Kind.TheVariants.{Empty, Event, Seq, Choice, Frame, Call}
 use Rattle.records.specs.declared.record.Line.{Line}
 use Rattle.records.specs.declared.record.Line.TheVariants.{Policy, Bad, Edge, Quota, Mark, Node, Def, Tariff}
+use Rattle.records.specs.Kinds.{letter_of}
 use Rattle.texts.specs.Fields.{Small, field}
-
--- the letter of a kind: z, e, s, c, f or d
-abbrev pub letter_of : Kind → ℕ
-letter_of Empty = 122
-letter_of Event = 101
-letter_of Seq = 115
-letter_of Choice = 99
-letter_of Frame = 102
-letter_of Call = 100
-
-abbrev pub NoLetter : ℕ → Type 0
-NoLetter letter = (kind : Kind) → letter_of kind ≢ letter
 
 -- the key and the letter of a kind, and what follows
 abbrev pub kind_field : Kind → List ℕ → List ℕ

@@ -2,7 +2,7 @@
 ghost use Rattle.std.specs.Prelude.{◌≡◌, ◌≤◌, length, MatchOption};
 ghost use Rattle.records.specs.declared.record.Line.TheVariants.{Policy, Bad, Edge, Quota, Mark, Node, Def, Tariff};
 ghost use Rattle.texts.specs.Fields.{Reads};
-ghost use Rattle.texts.specs.Lines.{Begins, LineAt, NoLetter, NoLine, NoneOf, kind_field, letter_of, unused};
+ghost use Rattle.texts.specs.Lines.{Begins, LineAt, NoLine, NoneOf, kind_field, unused};
 
 use crate::number::{field, last_field};
 use records::record::{
@@ -10,27 +10,12 @@ use records::record::{
     TariffRecord,
 };
 
-// The kind that a letter stands for.
-fn kind_of(letter: u8) -> Option<Kind>
-    ensures { MatchOption result (NoLetter letter) (λ kind. letter_of kind ≡ letter) }
-{
-    match char::from(letter) {
-        'z' => Some(Kind::Empty),
-        'e' => Some(Kind::Event),
-        's' => Some(Kind::Seq),
-        'c' => Some(Kind::Choice),
-        'f' => Some(Kind::Frame),
-        'd' => Some(Kind::Call),
-        _ => None,
-    }
-}
-
 // The kind whose letter stands behind its key.
 fn kind(text: &[u8]) -> Option<(Kind, &[u8])>
     ensures { Reads (λ kind rest. text.now ≡ kind_field kind rest) result }
 {
     let (letter, rest) = text.strip_prefix(b" kind=")?.split_first()?;
-    Some((kind_of(*letter)?, rest))
+    Some((Kind::try_from(*letter).ok()?, rest))
 }
 
 // Whether the fields that this kind does not use are 0.
