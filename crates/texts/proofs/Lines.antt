@@ -8,9 +8,10 @@ use Rattle.records.specs.declared.record.Line.{Line}
 use Rattle.records.specs.declared.record.Line.TheVariants.{Policy, Bad, Edge, Quota, Mark, Node, Def, Tariff}
 use Rattle.records.specs.Kinds.{letter_of}
 use Rattle.texts.specs.Fields.{Reads}
-use Rattle.texts.specs.Lines.{kind_field, Begins, LineAt, line_of, NoneOf}
+use Rattle.texts.specs.Lines.{kind_field, Begins, LineAt, line_of, NoneOf, ReadsLine}
 
-pub lettered : ℕ → Kind
+-- the kind of a letter
+lettered : ℕ → Kind
 lettered n = cond (eqb n 122) Empty (cond (eqb n 101) Event (cond (eqb n 115) Seq (cond (eqb n 99) Choice (cond (eqb n 102) Frame Call))))
 
 back : (kind : Kind) → lettered (letter_of kind) ≡ kind
@@ -40,23 +41,25 @@ module _ (text : List ℕ) where
   abbrev pub Found : Line × Bor (List ℕ) → Type 0
   Found p = Begins text p.0 p.1.now
 
-  -- a text that begins with no line of any of the eight begins with no line
-  no_line : NoneOf Node text → NoneOf Edge text → NoneOf Policy text → NoneOf Bad text → NoneOf Quota text → NoneOf Mark text → NoneOf Def text → NoneOf Tariff text → (line : Line) (rest : List ℕ) → ¬ (Begins text line rest)
-  no_line node edge policy bad quota mark def tariff (Policy r) = policy r
-  no_line node edge policy bad quota mark def tariff (Bad r) = bad r
-  no_line node edge policy bad quota mark def tariff (Edge r) = edge r
-  no_line node edge policy bad quota mark def tariff (Quota k) = quota k
-  no_line node edge policy bad quota mark def tariff (Mark r) = mark r
-  no_line node edge policy bad quota mark def tariff (Node r) = node r
-  no_line node edge policy bad quota mark def tariff (Def r) = def r
-  no_line node edge policy bad quota mark def tariff (Tariff r) = tariff r
+  abbrev pub NoneOfEight : Type 0
+  NoneOfEight = ((((((NoneOf Node text × NoneOf Edge text) × NoneOf Policy text) × NoneOf Bad text) × NoneOf Quota text) × NoneOf Mark text) × NoneOf Def text) × NoneOf Tariff text
 
-  none_of_eight : (h : Option (Line × Bor (List ℕ))) → MatchOption h (((((((NoneOf Node text × NoneOf Edge text) × NoneOf Policy text) × NoneOf Bad text) × NoneOf Quota text) × NoneOf Mark text) × NoneOf Def text) × NoneOf Tariff text) Found → Reads (Begins text) h
-  none_of_eight None (((((((node, edge), policy), bad), quota), mark), def), tariff) = no_line node edge policy bad quota mark def tariff
-  none_of_eight (Some p) found = found
+  no_line : NoneOfEight → (line : Line) (rest : List ℕ) → ¬ (Begins text line rest)
+  no_line none (Node r) = none.0.0.0.0.0.0.0 r
+  no_line none (Edge r) = none.0.0.0.0.0.0.1 r
+  no_line none (Policy r) = none.0.0.0.0.0.1 r
+  no_line none (Bad r) = none.0.0.0.0.1 r
+  no_line none (Quota k) = none.0.0.0.1 k
+  no_line none (Mark r) = none.0.0.1 r
+  no_line none (Def r) = none.0.1 r
+  no_line none (Tariff r) = none.1 r
 
-  -- the first of the eight that is read
-  pub first_of_eight : (a b c d e f g h : Option (Line × Bor (List ℕ))) (B C D E F G H : Type 0) → MatchOption a (NoneOf Node text) Found → MatchOption a B (λ x. b ≡ Some x) → (B → MatchOption b (NoneOf Edge text) Found) → MatchOption b C (λ x. c ≡ Some x) → (C → MatchOption c (NoneOf Policy text) Found) → MatchOption c D (λ x. d ≡ Some x) → (D → MatchOption d (NoneOf Bad text) Found) → MatchOption d E (λ x. e ≡ Some x) → (E → MatchOption e (NoneOf Quota text) Found) → MatchOption e F (λ x. f ≡ Some x) → (F → MatchOption f (NoneOf Mark text) Found) → MatchOption f G (λ x. g ≡ Some x) → (G → MatchOption g (NoneOf Def text) Found) → MatchOption g H (λ x. h ≡ Some x) → (H → MatchOption h (NoneOf Tariff text) Found) → Reads (Begins text) h
+  one_or_none : (r : Option (Line × Bor (List ℕ))) → MatchOption r NoneOfEight Found → Reads (Begins text) r
+  one_or_none None none = no_line none
+  one_or_none (Some p) found = found
+
+  -- the first that is read of the eight kinds of line
+  pub first_of_eight : (a b c d e f g h : Option (Line × Bor (List ℕ))) (B C D E F G H : Type 0) → ReadsLine Node text a → MatchOption a B (λ x. b ≡ Some x) → (B → ReadsLine Edge text b) → MatchOption b C (λ x. c ≡ Some x) → (C → ReadsLine Policy text c) → MatchOption c D (λ x. d ≡ Some x) → (D → ReadsLine Bad text d) → MatchOption d E (λ x. e ≡ Some x) → (E → ReadsLine Quota text e) → MatchOption e F (λ x. f ≡ Some x) → (F → ReadsLine Mark text f) → MatchOption f G (λ x. g ≡ Some x) → (G → ReadsLine Def text g) → MatchOption g H (λ x. h ≡ Some x) → (H → ReadsLine Tariff text h) → Reads (Begins text) h
   first_of_eight a b c d e f g h B C D E F G H node or_b edge or_c policy or_d bad or_e quota or_f mark or_g def or_h tariff =
       let two = or_next (NoneOf Node text) (NoneOf Edge text) Found a b B node or_b edge in
       let three = or_next _ (NoneOf Policy text) Found b c C two or_c policy in
@@ -64,7 +67,7 @@ module _ (text : List ℕ) where
       let five = or_next _ (NoneOf Quota text) Found d e E four or_e quota in
       let six = or_next _ (NoneOf Mark text) Found e f F five or_f mark in
       let seven = or_next _ (NoneOf Def text) Found f g G six or_g def in
-      none_of_eight h (or_next _ (NoneOf Tariff text) Found g h H seven or_h tariff)
+      one_or_none h (or_next _ (NoneOf Tariff text) Found g h H seven or_h tariff)
 
 -- a line, and then what follows
 line_then : (line : Line) (rest : List ℕ) → line_of line rest ≡ line_of line [] ++ rest

@@ -1,5 +1,6 @@
 -- The lines of records. Assumes nothing.
-use Rattle.std.specs.Prelude.{◌≡◌, ℕ, ◌≤◌, Bool, true, false, ◌&&◌, List, ◌∷◌, ◌++◌, length, drop, codes, ◌==◌, ◌≢◌}
+use Rattle.std.specs.Prelude.{◌≡◌, ℕ, ◌≤◌, Bool, true, false, ◌&&◌, List, ◌∷◌, ◌++◌, length, drop, codes, ◌==◌, ◌≢◌, Option, MatchOption}
+use Rattle.std.specs.Borrow.{Bor}
 use Rattle.records.specs.declared.record.Kind.{Kind}
 use Rattle.records.specs.declared.record.Kind.TheVariants.{Empty, Event, Seq, Choice, Frame, Call}
 use Rattle.records.specs.declared.record.Line.{Line}
@@ -58,6 +59,10 @@ pub record Begins (text : List ℕ) (line : Line) (rest : List ℕ) : Type 0 whe
 -- the text begins with no line that is made so
 abbrev pub NoneOf : {R : Type 0} → (R → Line) → List ℕ → Type 0
 NoneOf {R} make text = (r : R) (rest : List ℕ) → ¬ (Begins text (make r) rest)
+
+-- what is read where lines that are made so are looked for: a line with the bytes behind it
+abbrev pub ReadsLine : {R : Type 0} → (R → Line) → List ℕ → Option (Line × Bor (List ℕ)) → Type 0
+ReadsLine make text read = MatchOption read (NoneOf make text) (λ p. Begins text p.0 p.1.now)
 
 -- no line of any record stands at `at`
 abbrev pub NoLine : List ℕ → ℕ → Type 0

@@ -2,7 +2,7 @@
 ghost use Rattle.std.specs.Prelude.{◌≡◌, ◌≤◌, length, MatchOption};
 ghost use Rattle.records.specs.declared.record.Line.TheVariants.{Policy, Bad, Edge, Quota, Mark, Node, Def, Tariff};
 ghost use Rattle.texts.specs.Fields.{Reads};
-ghost use Rattle.texts.specs.Lines.{Begins, LineAt, NoLine, NoneOf, kind_field, unused};
+ghost use Rattle.texts.specs.Lines.{Begins, LineAt, NoLine, ReadsLine, kind_field, unused};
 
 use crate::number::{field, last_field};
 use records::record::{
@@ -30,7 +30,7 @@ fn unused_are_zero(kind: Kind, a: u64, b: u64) -> bool
 }
 
 fn policy_line(text: &[u8]) -> Option<(Line, &[u8])>
-    ensures { MatchOption result (NoneOf Policy text.now) (λ p. Begins text.now p.0 p.1.now) }
+    ensures { ReadsLine Policy text.now result }
 {
     let (policy, rest) = field(text, b"policy=")?;
     let (states, rest) = field(rest, b" states=")?;
@@ -44,7 +44,7 @@ fn policy_line(text: &[u8]) -> Option<(Line, &[u8])>
 }
 
 fn bad_line(text: &[u8]) -> Option<(Line, &[u8])>
-    ensures { MatchOption result (NoneOf Bad text.now) (λ p. Begins text.now p.0 p.1.now) }
+    ensures { ReadsLine Bad text.now result }
 {
     let (policy, rest) = field(text, b"bad=")?;
     let (state, rest) = last_field(rest, b" state=")?;
@@ -52,7 +52,7 @@ fn bad_line(text: &[u8]) -> Option<(Line, &[u8])>
 }
 
 fn edge_line(text: &[u8]) -> Option<(Line, &[u8])>
-    ensures { MatchOption result (NoneOf Edge text.now) (λ p. Begins text.now p.0 p.1.now) }
+    ensures { ReadsLine Edge text.now result }
 {
     let (policy, rest) = field(text, b"edge=")?;
     let (from, rest) = field(rest, b" from=")?;
@@ -68,21 +68,21 @@ fn edge_line(text: &[u8]) -> Option<(Line, &[u8])>
 }
 
 fn quota_line(text: &[u8]) -> Option<(Line, &[u8])>
-    ensures { MatchOption result (NoneOf Quota text.now) (λ p. Begins text.now p.0 p.1.now) }
+    ensures { ReadsLine Quota text.now result }
 {
     let (quota, rest) = last_field(text, b"quota=")?;
     Some((Line::Quota(quota), rest))
 }
 
 fn mark_line(text: &[u8]) -> Option<(Line, &[u8])>
-    ensures { MatchOption result (NoneOf Mark text.now) (λ p. Begins text.now p.0 p.1.now) }
+    ensures { ReadsLine Mark text.now result }
 {
     let (event, rest) = last_field(text, b"mark=")?;
     Some((Line::Mark(MarkRecord { event }), rest))
 }
 
 fn node_line(text: &[u8]) -> Option<(Line, &[u8])>
-    ensures { MatchOption result (NoneOf Node text.now) (λ p. Begins text.now p.0 p.1.now) }
+    ensures { ReadsLine Node text.now result }
 {
     let (node, rest) = field(text, b"node=")?;
     let (kind, rest) = kind(rest)?;
@@ -95,7 +95,7 @@ fn node_line(text: &[u8]) -> Option<(Line, &[u8])>
 }
 
 fn def_line(text: &[u8]) -> Option<(Line, &[u8])>
-    ensures { MatchOption result (NoneOf Def text.now) (λ p. Begins text.now p.0 p.1.now) }
+    ensures { ReadsLine Def text.now result }
 {
     let (def, rest) = field(text, b"def=")?;
     let (node, rest) = last_field(rest, b" node=")?;
@@ -103,7 +103,7 @@ fn def_line(text: &[u8]) -> Option<(Line, &[u8])>
 }
 
 fn tariff_line(text: &[u8]) -> Option<(Line, &[u8])>
-    ensures { MatchOption result (NoneOf Tariff text.now) (λ p. Begins text.now p.0 p.1.now) }
+    ensures { ReadsLine Tariff text.now result }
 {
     let (event, rest) = field(text, b"tariff=")?;
     let (cost, rest) = last_field(rest, b" cost=")?;
