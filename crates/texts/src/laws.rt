@@ -2,8 +2,8 @@
 ghost use Rattle.texts.specs.Whole.{ReadAsWritten};
 
 // A text is read whole exactly when it is the lines of its records, and they keep the rules.
-pub fn read_as_written() -> u8
+#[tactic(auto, using(crate::proofs::Whole::read_as_written))]
+pub fn read_as_written()
     ensures { ReadAsWritten }
 {
-    0
 }
