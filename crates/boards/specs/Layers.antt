@@ -1,5 +1,5 @@
 -- What boards made of boards mean. Assumes nothing.
-use Rattle.std.specs.Prelude.{ℕ, ◌+◌, ◌-◌, min, cond, List, nat_lt, slice_index}
+use Rattle.std.specs.Prelude.{ℕ, ◌+◌, ◌-◌, min, if◌then◌else◌, List, nat_lt, slice_index}
 use Rattle.histories.specs.Automata.{Automaton}
 use Rattle.boards.specs.Meanings.{Meaning}
 
@@ -7,7 +7,7 @@ use Rattle.boards.specs.Meanings.{Meaning}
 abbrev pub joined : Meaning → Meaning → Meaning
 joined a b = record {
   count = min 8 (a.count + b.count);
-  automaton = λ p. cond (nat_lt p a.count) (a.automaton p) (b.automaton (p - a.count));
+  automaton = λ p. if nat_lt p a.count then a.automaton p else b.automaton (p - a.count);
 }
 
 -- each event is read as the one that the map gives for it

@@ -1,5 +1,5 @@
 -- What a board means: some policies, each with an automaton over events. Assumes nothing.
-use Rattle.std.specs.Prelude.{◌≡◌, ℕ, ◌<◌, ◌≤◌, Bool, cond, List, Some, None, Option, nat_lt}
+use Rattle.std.specs.Prelude.{◌≡◌, ℕ, ◌<◌, ◌≤◌, Bool, if◌then◌else◌, List, Some, None, Option, nat_lt}
 use Rattle.histories.specs.Automata.{Automaton, Offends, run}
 
 -- the policies are those below the count
@@ -21,7 +21,7 @@ pub record Sound (m : Meaning) : Type 0 where
 
 -- an answer that is there only under a test
 abbrev pub when : {X : Type 0} → Bool → X → Option X
-when b x = cond b (Some x) None
+when b x = if b then Some x else None
 
 -- What is answered about a policy and about a policy's state: nothing where it is not there.
 abbrev pub states_of : Meaning → ℕ → Option ℕ
@@ -31,7 +31,7 @@ abbrev pub start_of : Meaning → ℕ → Option ℕ
 start_of m p = when (nat_lt p m.count) (m.automaton p).start
 
 abbrev pub about_state : {X : Type 0} → Meaning → ℕ → ℕ → X → Option X
-about_state m p q x = cond (nat_lt p m.count) (when (nat_lt q (m.automaton p).states) x) None
+about_state m p q x = if nat_lt p m.count then when (nat_lt q (m.automaton p).states) x else None
 
 abbrev pub offends_of : Meaning → ℕ → ℕ → Option Bool
 offends_of m p q = about_state m p q ((m.automaton p).offends q)

@@ -1,5 +1,5 @@
 -- What a quota board means. Assumes nothing.
-use Rattle.std.specs.Prelude.{ℕ, ◌+◌, min, Bool, false, cond, List, ◌==◌, slice_index_or}
+use Rattle.std.specs.Prelude.{ℕ, ◌+◌, min, Bool, false, if◌then◌else◌, List, ◌==◌, slice_index_or}
 use Rattle.histories.specs.Automata.{Automaton}
 use Rattle.boards.specs.Meanings.{Meaning}
 
@@ -9,7 +9,7 @@ counter k marked = record {
   states = k + 2;
   start = 0;
   offends = λ q. (q == k + 1);
-  next = λ q e. cond (slice_index_or marked e false) (min (q + 1) (k + 1)) q;
+  next = λ q e. if slice_index_or marked e false then min (q + 1) (k + 1) else q;
 }
 
 -- one policy

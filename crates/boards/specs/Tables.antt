@@ -1,5 +1,5 @@
 -- What policies, bads and edges mean. Assumes nothing.
-use Rattle.std.specs.Prelude.{ℕ, Bool, false, cond, ◌&&◌, ◌||◌, List, [], ◌∷◌, length, Some, None, Option, ◌==◌, slice_index_or}
+use Rattle.std.specs.Prelude.{ℕ, Bool, false, if◌then◌else◌, ◌&&◌, ◌||◌, List, [], ◌∷◌, length, Some, None, Option, ◌==◌, slice_index_or}
 use Rattle.std.specs.Option.{unwrap_or}
 use Rattle.records.specs.declared.record.PolicyRecord.{PolicyRecord}
 use Rattle.records.specs.declared.record.BadRecord.{BadRecord}
@@ -22,7 +22,7 @@ is_edge r p q e = r.policy == p && (r.from == q && r.event == e)
 -- where the edge of policy p from state q at event e leads, if there is one; edges that keep the rules have at most one, of more the last would count
 abbrev pub edge_to : List EdgeRecord → ℕ → ℕ → ℕ → Option ℕ
 edge_to [] p q e = None
-edge_to (r ∷ rs) p q e = elim (edge_to rs p q e) [ Some to ↦ Some to | None ↦ cond (is_edge r p q e) (Some r.to) None ]
+edge_to (r ∷ rs) p q e = elim (edge_to rs p q e) [ Some to ↦ Some to | None ↦ if is_edge r p q e then Some r.to else None ]
 
 -- the automaton of policy p; a missing edge leaves the state
 abbrev pub policy_of : List PolicyRecord → List BadRecord → List EdgeRecord → ℕ → Automaton

@@ -8,13 +8,10 @@ use crate::board::Board;
 pub fn state_after<B: Board>(board: &B, p: u8, journal: &[u8], count: usize) -> Option<u8>
     ensures { result ≡ (if nat_le count (length journal.now) then state_after (B.Board.meaning board.now) p (take count journal.now) else None) }
 {
-    if count > journal.len() {
-        return None;
-    }
+    let used = journal.get(..count)?;
     let mut state = board.start(p)?;
-    for event in &journal[0..count] {
-        let (next, _) = board.step(p, state, *event)?;
-        state = next;
+    for event in used {
+        (state, _) = board.step(p, state, *event)?;
     }
     Some(state)
 }

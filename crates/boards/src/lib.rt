@@ -5,5 +5,4 @@ pub mod board;
 pub mod joined;
 pub mod journal;
 pub mod quota;
-mod side;
 pub mod translated;

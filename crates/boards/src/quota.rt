@@ -1,5 +1,5 @@
 // A board of one policy that allows k marked events.
-ghost use Rattle.std.specs.Prelude.{◌≡◌, ◌+◌, ◌<◌, ◌≤◌, length, IfOk, if◌then◌else◌, Some, None, nat_le};
+ghost use Rattle.std.specs.Prelude.{◌≡◌, ◌≤◌, IfOk, if◌then◌else◌, Some, None, nat_le};
 ghost use Rattle.records.specs.declared.fault.Layer.TheVariants as layer;
 ghost use Rattle.records.specs.Faults.{answer, refusal};
 ghost use Rattle.boards.specs.Quotas.{counter, quota};
@@ -8,12 +8,11 @@ ghost use Rattle.std.proofs.Common.{rules};
 use crate::board::Board;
 use records::fault::Fault;
 
-#[derive(Clone, Copy)]
+#[derive(Clone, Copy, Debug, PartialEq, Eq)]
 pub struct Quota {
     k: u8,
     marked: [bool; 256],
     ghost small: { k ≤ 6 },
-    ghost whole: { length marked ≡ 256 },
 }
 
 impl Quota {
@@ -29,11 +28,10 @@ impl Quota {
     }
 
     fn next(&self, q: u8, e: u8) -> u8
-        requires { q < self.now.k + 2 }
         ensures { result ≡ (counter self.now.k self.now.marked).next q e }
     {
-        if self.marked[e as usize] && q <= self.k {
-            q + 1
+        if self.marked[e as usize] {
+            q.saturating_add(1).min(self.k + 1)
         } else {
             q
         }
@@ -50,27 +48,19 @@ impl Board for Quota {
     }
 
     fn states(&self, p: u8) -> Option<u8> {
-        if p == 0 { Some(self.k + 2) } else { None }
+        (p == 0).then_some(self.k + 2)
     }
 
     fn start(&self, p: u8) -> Option<u8> {
-        if p == 0 { Some(0) } else { None }
+        (p == 0).then_some(0)
     }
 
     fn offends(&self, p: u8, q: u8) -> Option<bool> {
-        if p == 0 && q < self.k + 2 {
-            Some(q == self.k + 1)
-        } else {
-            None
-        }
+        (p == 0 && q < self.k + 2).then_some(q == self.k + 1)
     }
 
     fn step(&self, p: u8, q: u8, e: u8) -> Option<(u8, bool)> {
-        if p == 0 && q < self.k + 2 {
-            let next = self.next(q, e);
-            Some((next, next == self.k + 1))
-        } else {
-            None
-        }
+        let next = self.next(q, e);
+        (p == 0 && q < self.k + 2).then_some((next, next == self.k + 1))
     }
 }

@@ -1,6 +1,0 @@
-// Which of two joined boards a policy comes from, with its number there.
-#[derive(Clone, Copy)]
-pub enum Side {
-    First(u8),
-    Second(u8),
-}
