@@ -10,8 +10,8 @@ pub fn effort_of<S: Scale>(history: &[u16], costs: &[u32; 256]) -> S
 {
     let mut total = S::nothing();
     for symbol in history {
-        if *symbol < 256 {
-            total = total.join(S::of_cost(costs[*symbol as usize]));
+        if let Some(cost) = costs.get(usize::from(*symbol)) {
+            total = total.join(S::of_cost(*cost));
         }
     }
     total

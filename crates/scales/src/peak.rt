@@ -19,12 +19,10 @@ impl Scale for Peak {
     }
 
     fn join(self, other: Peak) -> Peak {
-        Peak {
-            cost: self.cost.max(other.cost),
-        }
+        self.max(other)
     }
 
     fn at_most(self, other: Peak) -> bool {
-        self.cost <= other.cost
+        self <= other
     }
 }

@@ -18,7 +18,7 @@ pub trait Scale: Copy {
     fn join(self, other: Self) -> Self
         ensures { result ≡ measure.joined self other };
 
-    // Whether this effort is at most the other one.
+    // Whether this effort is at most the other one. It is no `PartialOrd`: there, efforts that are each at most the other are `==`.
     fn at_most(self, other: Self) -> bool
         ensures { result ≡ measure.at_most self other };
 

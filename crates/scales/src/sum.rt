@@ -5,6 +5,7 @@ ghost use Rattle.scales.specs.Costs.{sum_laws};
 use crate::efforts::Sum;
 use crate::scale::Scale;
 
+#[tactic(auto, using(crate::specs::Costs::same_cost))]
 impl Scale for Sum {
     ghost measure = { sum };
 
@@ -25,6 +26,6 @@ impl Scale for Sum {
     }
 
     fn at_most(self, other: Sum) -> bool {
-        self.cost <= other.cost
+        self <= other
     }
 }

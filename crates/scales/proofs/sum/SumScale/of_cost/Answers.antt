@@ -1,6 +1,0 @@
-use Rattle.std.proofs.Common.{rules}
-use Rattle.scales.specs.Costs.{same_cost}
-use Rattle.scales.proofs.sum.SumScale.of_cost.Goals as goal
-
-pub returns : goal.returns
-returns c = same_cost _ _ (search rules)
