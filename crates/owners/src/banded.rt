@@ -4,7 +4,7 @@ ghost use Rattle.std.proofs.Common.{rules};
 
 use scales::scale::Scale;
 
-#[derive(Clone, Copy)]
+#[derive(Clone, Copy, Debug, Default, PartialEq, Eq)]
 pub struct Banded {
     pub cost: u32,
 }

@@ -1,26 +1,26 @@
 // A board of one policy: one event must not come before another has come.
 ghost use Rattle.std.specs.Prelude.{◌≡◌};
-ghost use Rattle.owners.specs.Orders.{led, ordered};
+ghost use Rattle.owners.specs.Orders.{order, ordered};
 ghost use Rattle.std.proofs.Common.{rules};
 
 use boards::board::Board;
 
 // The event `then` must not come before `first` has come.
-#[derive(Clone, Copy)]
+#[derive(Clone, Copy, Debug, PartialEq, Eq)]
 pub struct Ordered {
     pub first: u8,
     pub then: u8,
 }
 
 impl Ordered {
-    // Where an event leads from the start.
-    fn leads(&self, e: u8) -> u8
-        ensures { result ≡ led self.now.first self.now.then e }
+    fn next(&self, q: u8, e: u8) -> u8
+        ensures { result ≡ (order self.now.first self.now.then).next q e }
     {
-        if e == self.first {
-            return 1;
+        match q {
+            0 if e == self.first => 1,
+            0 if e == self.then => 2,
+            _ => q,
         }
-        if e == self.then { 2 } else { 0 }
     }
 }
 
@@ -34,23 +34,19 @@ impl Board for Ordered {
     }
 
     fn states(&self, p: u8) -> Option<u8> {
-        if p == 0 { Some(3) } else { None }
+        (p == 0).then_some(3)
     }
 
     fn start(&self, p: u8) -> Option<u8> {
-        if p == 0 { Some(0) } else { None }
+        (p == 0).then_some(0)
     }
 
     fn offends(&self, p: u8, q: u8) -> Option<bool> {
-        if p == 0 && q < 3 { Some(q == 2) } else { None }
+        (p == 0 && q < 3).then_some(q == 2)
     }
 
     fn step(&self, p: u8, q: u8, e: u8) -> Option<(u8, bool)> {
-        if p == 0 && q < 3 {
-            let next = if q == 0 { self.leads(e) } else { q };
-            Some((next, next == 2))
-        } else {
-            None
-        }
+        let next = self.next(q, e);
+        (p == 0 && q < 3).then_some((next, next == 2))
     }
 }

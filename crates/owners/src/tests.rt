@@ -72,9 +72,9 @@ fn efforts(rt: HostRuntime) {
     costs[7] = 1900;
     let less: Banded = effort_of(&[256, 5], &costs);
     let more: Banded = effort_of(&[256, 7, 5], &costs);
-    assert_eq!(rt; less.cost, 1200);
-    assert_eq!(rt; more.cost, 1900);
-    assert_eq!(rt; less.at_most(more), true);
-    assert_eq!(rt; more.at_most(less), true);
-    assert_eq!(rt; Banded::of_cost(2000).at_most(more), false);
+    assert_eq!(rt; less, Banded { cost: 1200 });
+    assert_eq!(rt; more, Banded { cost: 1900 });
+    assert!(rt; less.at_most(more));
+    assert!(rt; more.at_most(less));
+    assert!(rt; !Banded::of_cost(2000).at_most(more));
 }
