@@ -1,6 +1,7 @@
 -- Bounds of the efforts of a node's histories, found in some turns, and right once another turn adds nothing. Assumes nothing.
 use Rattle.std.proofs.Common.{◌≡◌, ℕ, zero, suc, ◌<◌, Bool, true, false, cond, not, ◌&&◌, ◌||◌, eqb, ltb, ◌⊎◌, List, [], ◌∷◌, ◌++◌, length, get_or, Some, sym, ap, ◌∙◌, subst, inl, inr, arith}
 use Rattle.std.specs.List.{slice_get}
+use Rattle.std.proofs.lemmas.Option.{slice_get_within, get_or_from_slice_get}
 use Rattle.std.proofs.lemmas.Bool.{ltb-true, and_parts, or_left, or_right, cases_Bool, cases_lt}
 use Rattle.jobs.specs.declared.node.Node.{Node}
 use Rattle.jobs.specs.declared.node.Node.TheVariants.{Empty, Event, Seq, Choice, Frame, Call}
@@ -9,7 +10,7 @@ use Rattle.histories.specs.Symbols.{opening, closing, events, LeavesOpen}
 use Rattle.histories.specs.Automata.{Automaton, run, OffendsFrom}
 use Rattle.histories.specs.Histories.{Complete, Started}
 use Rattle.histories.proofs.Counts.{occurrences-nil, run-nil, events-nil, state-++, state-event, events-opening, events-framed}
-use Rattle.histories.proofs.Places.{nth_within, nth_is, event_low, policy_low}
+use Rattle.histories.proofs.Places.{event_low, policy_low}
 use Rattle.histories.proofs.Beginnings.{complete_node}
 use Rattle.histories.proofs.Balance.{Balanced, complete_balanced}
 use Rattle.histories.proofs.Framings.{open_behind, open_inside}
@@ -97,9 +98,9 @@ module _ {S : Type 0} (m : Measure S) (s : Setting) (p : ℕ) where
     module _ (ok : settled ≡ true) (table : Sound s.nodes s.bodies) (laws : Laws m) where
       rules : {x : Node} {n q : ℕ} → slice_get s.nodes n ≡ Some x → q < automaton.states → Rules x n q
       rules {x} {n} {q} e lt =
-          let row = all_below_at (length s.nodes) _ (and_parts (ltb p 8) _ ok).1 n (nth_within s.nodes n x e) in
+          let row = all_below_at (length s.nodes) _ (and_parts (ltb p 8) _ ok).1 n (slice_get_within s.nodes n x e) in
           let cell = all_below_at automaton.states (settled_at (get_or s.nodes n Empty) n) row q lt in
-          rules_at x n q (subst (λ (y : Node). settled_at y n q ≡ true) (nth_is s.nodes n x Empty e) cell)
+          rules_at x n q (subst (λ (y : Node). settled_at y n q ≡ true) (get_or_from_slice_get s.nodes n x Empty e) cell)
 
       abbrev Reached : Ends m → ℕ → List ℕ → Type 0
       Reached es q w = Covers m es (run automaton q (events w)) (effort m s.costs w)
@@ -127,7 +128,7 @@ module _ {S : Type 0} (m : Measure S) (s : Setting) (p : ℕ) where
       complete_reached q (Complete.framed {p = i} {u} e a) lt =
           covers_same m (ap (run automaton q) (events-framed i u)) (effort-framed laws s.costs i u) (through m laws (rules e lt).complete (complete_reached q a lt))
       complete_reached q (Complete.called {d} {b} {u} e h a) lt =
-          through m laws (rules e lt).complete (subst (λ (i : ℕ). Reached (ends turns i q) q u) (sym (nth_is s.bodies d b 0 h)) (complete_reached q a lt))
+          through m laws (rules e lt).complete (subst (λ (i : ℕ). Reached (ends turns i q) q u) (sym (get_or_from_slice_get s.bodies d b 0 h)) (complete_reached q a lt))
 
       -- the policy is open after a history, given whether it is before
       abbrev OpenAfter : Bool → List ℕ → Type 0
@@ -176,7 +177,7 @@ module _ {S : Type 0} (m : Measure S) (s : Setting) (p : ℕ) where
           covers_same m (ap (run automaton q) (events-opening i u)) (effort-opening laws s.costs i u) (part_reached _ q f u e lt part)
       started_reached q f (Started.framed {u} e a) lt o = was_reached _ q f u e lt (complete_balanced table p low a) o (Covers.there (complete_reached q a lt))
       started_reached q f (Started.called {d} {b} {u} e h a) lt o =
-          part_reached _ q f u e lt (subst (λ (i : ℕ). Reached (opens turns i q f) q u) (sym (nth_is s.bodies d b 0 h)) (started_reached q f a lt o))
+          part_reached _ q f u e lt (subst (λ (i : ℕ). Reached (opens turns i q f) q u) (sym (get_or_from_slice_get s.bodies d b 0 h)) (started_reached q f a lt o))
 
       -- what holds of all bounds at offending states holds at or below the effort of each history that offends
       pub offends_above : (n q : ℕ) (g : S → Bool) → every m (λ k x. not (automaton.offends k) || g x) (opens turns n q false) ≡ true → q < automaton.states → (w : List ℕ) → Started s.nodes s.bodies n w → OffendsFrom automaton p q w → (x : S) × (m.at_most x (effort m s.costs w) ≡ true) × (g x ≡ true)

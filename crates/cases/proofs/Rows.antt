@@ -1,13 +1,13 @@
 -- The played cases hold: a test of a case, which computes, and what it shows. Assumes nothing.
 use Rattle.std.proofs.Common.{◌≡◌, ℕ, Bool, true, false, not, ◌&&◌, ◌||◌, eqb, ltb, List, [], ◌∷◌, length, get_or, Some, refl, subst}
 use Rattle.std.specs.List.{slice_get}
+use Rattle.std.proofs.lemmas.Option.{slice_get_within}
 use Rattle.std.proofs.lemmas.Bool.{ltb-true, leb-true, eqb-true, and_parts, false≢true}
 use Rattle.jobs.specs.declared.node.Node.TheVariants.{Empty}
 use Rattle.jobs.specs.Placed.{Sound, placed}
 use Rattle.histories.specs.Symbols.{opening, closing, events, occurrences}
 use Rattle.histories.specs.Automata.{run}
 use Rattle.histories.specs.Histories.{Started, JobStarted}
-use Rattle.histories.proofs.Places.{nth_within}
 use Rattle.boards.specs.Meanings.{OffendsOn}
 use Rattle.scales.specs.declared.efforts.Sum.{Sum}
 use Rattle.scales.specs.Efforts.{effort, joined_costs}
@@ -68,7 +68,7 @@ module _ (s : Setting) (turns : ℕ) where
 
     verdict_right : (past : List ℕ) (job body : ℕ) (v : Verdict) → slice_get s.bodies job ≡ Some body → verdict_checked past v body ≡ true → VerdictHolds s past job v
     verdict_right past job body passes named h =
-        record { there = nth_within s.bodies job body named; none = λ p w j o. false≢true (above past job body (λ x. false) named h p w j o).2 }
+        record { there = slice_get_within s.bodies job body named; none = λ p w j o. false≢true (above past job body (λ x. false) named h p w j o).2 }
     verdict_right past job body (offends p w cost) named h =
         let first = and_parts (starts s.nodes s.bodies turns body w) _ h in
         let second = and_parts (offends_checked past p w) _ first.1 in

@@ -2,8 +2,7 @@
 ghost use Rattle.cases.specs.Played.{Played};
 
 // Each case of the table holds.
-pub fn played_cases_hold() -> u8
+pub fn played_cases_hold()
     ensures { Played }
 {
-    0
 }
