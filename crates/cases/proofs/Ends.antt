@@ -1,5 +1,6 @@
 -- Lists of states with efforts, as bounds of the efforts with which the states are reached. Assumes nothing.
-use Rattle.std.proofs.Common.{◌≡◌, ℕ, Bool, true, false, ◌&&◌, ◌||◌, eqb, List, [], ◌∷◌, ◌++◌, inl, inr}
+use Rattle.std.proofs.Common.{◌≡◌, ℕ, Bool, true, ◌&&◌, eqb, List, [], ◌∷◌, ◌++◌, map, inl, inr}
+use Rattle.std.specs.List.{flat_map, list_all, list_any}
 use Rattle.std.proofs.lemmas.Bool.{eqb-true, and_parts, or_cases, false≢true}
 use Rattle.scales.specs.Measures.{Measure, Laws}
 use Rattle.scales.proofs.Joins.{joined_most}
@@ -11,12 +12,10 @@ module _ {S : Type 0} (m : Measure S) where
 
   -- these, behind an effort; and behind others
   abbrev raised : S → Ends → Ends
-  raised x [] = []
-  raised x ((k, y) ∷ es) = (k, m.joined x y) ∷ raised x es
+  raised x = map (λ e. (e.0, m.joined x e.1))
 
   abbrev pub behind : Ends → (ℕ → Ends) → Ends
-  behind [] f = []
-  behind ((k, x) ∷ es) f = raised x (f k) ++ behind es f
+  behind es f = flat_map (λ e. raised e.1 (f e.0)) es
 
   -- an effort that is listed with the state is at most this one
   pub data Covers : Ends → ℕ → S → Type 0 where
@@ -24,12 +23,10 @@ module _ {S : Type 0} (m : Measure S) where
     there : {es : Ends} {e : ℕ × S} {k : ℕ} {y : S} → Covers es k y → Covers (e ∷ es) k y
 
   abbrev pub covers : Ends → ℕ → S → Bool
-  covers [] k y = false
-  covers ((j, x) ∷ es) k y = (eqb j k && m.at_most x y) || covers es k y
+  covers es k y = list_any (λ e. eqb e.0 k && m.at_most e.1 y) es
 
   abbrev pub every : (ℕ → S → Bool) → Ends → Bool
-  every f [] = true
-  every f ((k, x) ∷ es) = f k x && every f es
+  every f = list_all (λ e. f e.0 e.1)
 
   covers_true : (es : Ends) (k : ℕ) (y : S) → covers es k y ≡ true → Covers es k y
   covers_true [] k y h = absurd (false≢true h)

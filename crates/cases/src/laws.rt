@@ -4,5 +4,4 @@ ghost use Rattle.cases.specs.Played.{Played};
 // Each case of the table holds.
 pub fn played_cases_hold()
     ensures { Played }
-{
-}
+{}
