@@ -38,5 +38,5 @@ pub stands_first : (m : Meaning) → Sound m → (p : ℕ) (es : List ℕ) (q : 
 unfolding run
 stands_first m sound p es q h =
     let there : p < m.count = grind arith in
-    let starts : q ≡ (m.automaton p).start = grind arith in
-    record { policy = there; state = rw starts (sound.closed p there).starts; reached = rw starts }
+    let inside = (sound.closed p there).starts in
+    record { policy = there; state = grind arith; reached = grind arith }

@@ -1,26 +1,19 @@
 -- Events, occurrences and runs of joined histories. Assumes nothing.
-use Rattle.std.proofs.Common.{◌≡◌, ℕ, ◌+◌, ◌<◌, ◌≤◌, Bool, true, false, cond, eqb, ltb, List, [], ◌∷◌, ◌++◌, refl, ap, ◌∙◌, append-nil, arith}
-use Rattle.std.proofs.lemmas.Bool.{lt-ltb, le-ltb, ne_eqb, eq-eqb, eqb-true, eqb-false}
+use Rattle.std.proofs.Common.{◌≡◌, ℕ, ◌+◌, ◌<◌, ◌≤◌, cond, eqb, List, [], ◌∷◌, ◌++◌, refl, ap, ◌∙◌, append-nil, arith}
+use Rattle.std.proofs.lemmas.Bool.Decides.{nat_tests}
+use Rattle.std.proofs.lemmas.Bool.{lt-ltb, le-ltb}
 use Rattle.histories.specs.Symbols.{opening, closing, events, occurrences}
 use Rattle.histories.specs.Automata.{Automaton, run}
-
-cond-++ : (b : Bool) (s : ℕ) (x y : List ℕ) → cond b (s ∷ (x ++ y)) (x ++ y) ≡ cond b (s ∷ x) x ++ y
-cond-++ true s x y = refl
-cond-++ false s x y = refl
 
 pub events-++ : (u v : List ℕ) → events (u ++ v) ≡ events u ++ events v
 unfolding events
 events-++ [] v = refl
-events-++ (s ∷ u) v = rw (events-++ u v) (cond-++ (ltb s 256) s (events u) (events v))
-
-cond-+ : (b : Bool) (x y : ℕ) → cond b (1 + (x + y)) (x + y) ≡ cond b (1 + x) x + y
-cond-+ true x y = omega arith
-cond-+ false x y = refl
+events-++ (s ∷ u) v = grind (arith, events-++ u v)
 
 pub occurrences-++ : (s : ℕ) (u v : List ℕ) → occurrences s (u ++ v) ≡ occurrences s u + occurrences s v
 unfolding occurrences
 occurrences-++ s [] v = omega arith
-occurrences-++ s (x ∷ u) v = rw (occurrences-++ s u v) (cond-+ (eqb x s) (occurrences s u) (occurrences s v))
+occurrences-++ s (x ∷ u) v = grind (arith, occurrences-++ s u v)
 
 pub run-++ : (a : Automaton) (q : ℕ) (u v : List ℕ) → run a q (u ++ v) ≡ run a (run a q u) v
 unfolding run
@@ -72,64 +65,34 @@ pub occurrences-nil : (s : ℕ) → occurrences s [] ≡ 0
 unfolding occurrences
 occurrences-nil s = refl
 
-pub occurrences-same : (s : ℕ) (w : List ℕ) → occurrences s (s ∷ w) ≡ 1 + occurrences s w
+-- one symbol more
+pub occurrences-cons : (s x : ℕ) (w : List ℕ) → occurrences s (x ∷ w) ≡ cond (eqb x s) 1 0 + occurrences s w
 unfolding occurrences
-occurrences-same s w = rw (eq-eqb s s refl)
-
-pub occurrences-other : (s x : ℕ) (w : List ℕ) → (x ≡ s → ⊥) → occurrences s (x ∷ w) ≡ occurrences s w
-unfolding occurrences
-occurrences-other s x w h = rw (ne_eqb x s h)
-
--- symbols of policies below 256 are apart, and apart from events
-pub event_opening : (e p : ℕ) → e < 256 → e ≡ opening p → ⊥
-unfolding opening
-event_opening e p h q = omega arith
-
-pub event_closing : (e p : ℕ) → e < 256 → e ≡ closing p → ⊥
-unfolding closing
-event_closing e p h q = omega arith
-
-pub opening_closing : (p q : ℕ) → p < 256 → opening p ≡ closing q → ⊥
-unfolding opening closing
-opening_closing p q h e = omega arith
-
-pub closing_opening : (p q : ℕ) → q < 256 → closing p ≡ opening q → ⊥
-unfolding opening closing
-closing_opening p q h e = omega arith
-
-pub opening_apart : (p q : ℕ) → (p ≡ q → ⊥) → opening p ≡ opening q → ⊥
-unfolding opening
-opening_apart p q h e = h (omega arith)
-
-pub closing_apart : (p q : ℕ) → (p ≡ q → ⊥) → closing p ≡ closing q → ⊥
-unfolding closing
-closing_apart p q h e = h (omega arith)
+occurrences-cons s x w = grind arith
 
 -- how often a policy's symbols stand in a history of one symbol
 pub event_opens_none : (p e : ℕ) → e < 256 → occurrences (opening p) (e ∷ []) ≡ 0
-event_opens_none p e h = occurrences-other (opening p) e [] (event_opening e p h) ∙ occurrences-nil (opening p)
+unfolding opening
+event_opens_none p e h = grind (arith, nat_tests, occurrences-cons (opening p) e [], occurrences-nil (opening p))
 
 pub event_closes_none : (p e : ℕ) → e < 256 → occurrences (closing p) (e ∷ []) ≡ 0
-event_closes_none p e h = occurrences-other (closing p) e [] (event_closing e p h) ∙ occurrences-nil (closing p)
+unfolding closing
+event_closes_none p e h = grind (arith, nat_tests, occurrences-cons (closing p) e [], occurrences-nil (closing p))
 
 -- What an opening of q before a history adds for policy p: one opening where q is p, else nothing; and no closing.
 pub opening_closes_none : (p q : ℕ) (w : List ℕ) → q < 256 → occurrences (closing p) (opening q ∷ w) ≡ occurrences (closing p) w
-opening_closes_none p q w h = occurrences-other (closing p) (opening q) w (opening_closing q p h)
+unfolding opening closing
+opening_closes_none p q w h = grind (arith, nat_tests, occurrences-cons (closing p) (opening q) w)
 
 pub opening_opens : (p q : ℕ) (w : List ℕ) → occurrences (opening p) (opening q ∷ w) ≡ cond (eqb q p) 1 0 + occurrences (opening p) w
-opening_opens p q w = go (eqb q p) refl
-  where
-    go : (b : Bool) → eqb q p ≡ b → occurrences (opening p) (opening q ∷ w) ≡ cond (eqb q p) 1 0 + occurrences (opening p) w
-    go true e = rw (e, eqb-true q p e) (occurrences-same (opening p) w)
-    go false e = rw e (occurrences-other (opening p) (opening q) w (opening_apart q p (eqb-false q p e)) ∙ omega arith)
+unfolding opening
+opening_opens p q w = grind (arith, nat_tests, occurrences-cons (opening p) (opening q) w)
 
 -- What a closing of q adds.
 pub closing_opens_none : (p q : ℕ) (w : List ℕ) → p < 256 → occurrences (opening p) (closing q ∷ w) ≡ occurrences (opening p) w
-closing_opens_none p q w h = occurrences-other (opening p) (closing q) w (closing_opening q p h)
+unfolding opening closing
+closing_opens_none p q w h = grind (arith, nat_tests, occurrences-cons (opening p) (closing q) w)
 
 pub closing_closes : (p q : ℕ) (w : List ℕ) → occurrences (closing p) (closing q ∷ w) ≡ cond (eqb q p) 1 0 + occurrences (closing p) w
-closing_closes p q w = go (eqb q p) refl
-  where
-    go : (b : Bool) → eqb q p ≡ b → occurrences (closing p) (closing q ∷ w) ≡ cond (eqb q p) 1 0 + occurrences (closing p) w
-    go true e = rw (e, eqb-true q p e) (occurrences-same (closing p) w)
-    go false e = rw e (occurrences-other (closing p) (closing q) w (closing_apart q p (eqb-false q p e)) ∙ omega arith)
+unfolding closing
+closing_closes p q w = grind (arith, nat_tests, occurrences-cons (closing p) (closing q) w)

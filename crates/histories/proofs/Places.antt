@@ -2,7 +2,7 @@
 use Rattle.std.proofs.Common.{◌≡◌, ℕ, ◌<◌, true, ltb, List, length, get_or, Some, arith, ltb-true}
 use Rattle.std.specs.List.{slice_get}
 use Rattle.std.proofs.lemmas.Option.{slice_get-get_or, slice_get_within, get_or_from_slice_get}
-use Rattle.std.proofs.lemmas.Bool.{and_parts}
+use Rattle.std.proofs.lemmas.Bool.Decides.{nat_tests}
 use Rattle.jobs.specs.declared.node.Node.{Node}
 use Rattle.jobs.specs.declared.node.Node.TheVariants.{Empty, Event, Seq, Choice, Frame, Call}
 use Rattle.jobs.specs.Placed.{Sound, placed}
@@ -17,7 +17,7 @@ module _ {nodes : List Node} {bodies : List ℕ} (sound : Sound nodes bodies) wh
   event_low n e h = ltb-true e 256 (node_placed n (Event e) h)
 
   pub policy_low : (n p m : ℕ) → slice_get nodes n ≡ Some (Frame p m) → p < 8
-  policy_low n p m h = ltb-true p 8 (and_parts (ltb p 8) (ltb m n) (node_placed n (Frame p m) h)).0
+  policy_low n p m h = grind (arith, nat_tests, node_placed n (Frame p m) h)
 
   -- a number below that of a node is a node's
   below_node : (k n : ℕ) (x : Node) → slice_get nodes n ≡ Some x → ltb k n ≡ true → slice_get nodes k ≡ Some (get_or nodes k Empty)
@@ -28,13 +28,13 @@ module _ {nodes : List Node} {bodies : List ℕ} (sound : Sound nodes bodies) wh
 
   -- the parts of a node are nodes, with lower numbers
   pub sequence_parts : (n l r : ℕ) → slice_get nodes n ≡ Some (Seq l r) → (l < n) × (r < n)
-  sequence_parts n l r h = let both = and_parts (ltb l n) (ltb r n) (node_placed n (Seq l r) h) in (ltb-true l n both.0, ltb-true r n both.1)
+  sequence_parts n l r h = grind (arith, nat_tests, node_placed n (Seq l r) h)
 
   pub choice_parts : (n l r : ℕ) → slice_get nodes n ≡ Some (Choice l r) → (l < n) × (r < n)
-  choice_parts n l r h = let both = and_parts (ltb l n) (ltb r n) (node_placed n (Choice l r) h) in (ltb-true l n both.0, ltb-true r n both.1)
+  choice_parts n l r h = grind (arith, nat_tests, node_placed n (Choice l r) h)
 
   pub framed_part : (n p m : ℕ) → slice_get nodes n ≡ Some (Frame p m) → m < n
-  framed_part n p m h = ltb-true m n (and_parts (ltb p 8) (ltb m n) (node_placed n (Frame p m) h)).1
+  framed_part n p m h = grind (arith, nat_tests, node_placed n (Frame p m) h)
 
   -- a called definition is there, and its body is a node
   pub called_body : (n d : ℕ) → slice_get nodes n ≡ Some (Call d) → slice_get bodies d ≡ Some (get_or bodies d 0)

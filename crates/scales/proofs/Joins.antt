@@ -1,7 +1,7 @@
 -- What the laws give of the effort of a history. Assumes nothing.
-use Rattle.std.proofs.Common.{◌≡◌, ℕ, ◌+◌, ◌<◌, ◌≤◌, Bool, true, false, List, [], ◌∷◌, ◌++◌, length, get_or, take, sym, refl, ap, ◌∙◌}
+use Rattle.std.proofs.Common.{◌≡◌, ℕ, ◌+◌, ◌<◌, ◌≤◌, true, List, [], ◌∷◌, ◌++◌, length, get_or, take, sym, ap, ◌∙◌, inl, inr}
 use Rattle.std.proofs.lemmas.List.{take_more}
-use Rattle.std.proofs.lemmas.Bool.{le-ltb}
+use Rattle.std.proofs.lemmas.Bool.{le-ltb, cases_Bool}
 use Rattle.histories.specs.Symbols.{events, opening, closing}
 use Rattle.histories.proofs.Counts.{events-++, events-event, events-opening, events-framed, events-nil}
 use Rattle.scales.specs.Measures.{Measure, Laws}
@@ -10,11 +10,7 @@ use Rattle.scales.specs.Efforts.{price, joined_costs, effort}
 module _ {S : Type 0} {m : Measure S} (laws : Laws m) where
   -- an effort is at most itself
   pub reflexive : (x : S) → m.at_most x x ≡ true
-  reflexive x = go (m.at_most x x) refl
-    where
-      go : (b : Bool) → m.at_most x x ≡ b → m.at_most x x ≡ true
-      go true e = e
-      go false e = laws.total x x e
+  reflexive x = elim (cases_Bool (m.at_most x x)) [ inl e ↦ e | inr e ↦ laws.total x x e ]
 
   -- the larger both, the larger joined
   pub joined_most : (x y x' y' : S) → m.at_most x x' ≡ true → m.at_most y y' ≡ true → m.at_most (m.joined x y) (m.joined x' y') ≡ true
