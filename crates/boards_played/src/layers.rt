@@ -46,16 +46,8 @@ fn quota_answers(rt: HostRuntime) -> Result<(), Fail> {
 fn quota_limits(rt: HostRuntime) -> Result<(), Fail> {
     assert_eq!(rt; nines(0)?.step(0, 0, 9), Some((1, true)));
     assert_eq!(rt; nines(6)?.states(0), Some(8));
-    match nines(7) {
-        Ok(_) => {
-            assert_eq!(rt; 0, 1);
-            Ok(())
-        },
-        Err(fault) => {
-            assert_eq!(rt; (fault.number(), fault.place()), (3, 0));
-            Ok(())
-        },
-    }
+    assert_eq!(rt; nines(7).map_err(|fault| (fault.number(), fault.place())), Err((3, 0)));
+    Ok(())
 }
 
 #[test]

@@ -43,15 +43,6 @@ const BAD: BadRecord = BadRecord {
     state: 9,
 };
 
-const EDGE: EdgeRecord = EdgeRecord {
-    policy: 9,
-    from: 9,
-    event: 9,
-    to: 9,
-};
-
-const MARK: MarkRecord = MarkRecord { event: 999 };
-
 const NODE: NodeRecord = NodeRecord {
     node: 999,
     kind: Kind::Call,
@@ -59,70 +50,54 @@ const NODE: NodeRecord = NodeRecord {
     b: 9,
 };
 
-const DEF: DefRecord = DefRecord { def: 99, node: 9 };
-
-const TARIFF: TariffRecord = TariffRecord {
-    event: 999,
-    cost: 9,
-};
-
-// The number and place of the refusal of a reading, or twice 0.
-fn answer(text: &[u8], lists: &mut Lists) -> (u8, usize) {
-    match read(text, lists) {
-        Ok(_) => (0, 0),
-        Err(fault) => (fault.number(), fault.place()),
-    }
+// The number and the place of the refusal of a reading.
+fn refused(text: &[u8], lists: &mut Lists) -> Option<(u8, usize)> {
+    let fault = read(text, lists).err()?;
+    Some((fault.number(), fault.place()))
 }
 
-// The answer to the text that lists of these sizes give.
-fn played(sizes: Sizes) -> (u8, usize) {
-    let (p, b, e) = (sizes.policies.min(2), sizes.bads.min(2), sizes.edges.min(2));
-    let (m, n, d, t) = (
-        sizes.marks.min(2),
-        sizes.nodes.min(2),
-        sizes.defs.min(2),
-        sizes.tariffs.min(2),
-    );
-    let (mut policies, mut bads, mut edges) = ([POLICY; 2], [BAD; 2], [EDGE; 2]);
-    let (mut marks, mut nodes, mut defs, mut tariffs) = (
-        [MARK; 2],
-        [NODE; 2],
-        [DEF; 2],
-        [TARIFF; 2],
-    );
+// The refusal of the text for lists of these sizes.
+fn played(sizes: Sizes) -> Option<(u8, usize)> {
+    let mut policies = [PolicyRecord::default(); 2];
+    let mut bads = [BadRecord::default(); 2];
+    let mut edges = [EdgeRecord::default(); 2];
+    let mut marks = [MarkRecord::default(); 2];
+    let mut nodes = [NodeRecord::default(); 2];
+    let mut defs = [DefRecord::default(); 2];
+    let mut tariffs = [TariffRecord::default(); 2];
     let mut lists = Lists {
-        policies: &mut policies[0..p],
-        bads: &mut bads[0..b],
-        edges: &mut edges[0..e],
-        marks: &mut marks[0..m],
-        nodes: &mut nodes[0..n],
-        defs: &mut defs[0..d],
-        tariffs: &mut tariffs[0..t],
+        policies: &mut policies[..sizes.policies.min(2)],
+        bads: &mut bads[..sizes.bads.min(2)],
+        edges: &mut edges[..sizes.edges.min(2)],
+        marks: &mut marks[..sizes.marks.min(2)],
+        nodes: &mut nodes[..sizes.nodes.min(2)],
+        defs: &mut defs[..sizes.defs.min(2)],
+        tariffs: &mut tariffs[..sizes.tariffs.min(2)],
     };
-    answer(TWO.as_bytes(), &mut lists)
+    refused(TWO.as_bytes(), &mut lists)
 }
 
 #[test]
 fn one_too_short(rt: HostRuntime) {
-    assert_eq!(rt; played(ENOUGH), (0, 0));
+    assert_eq!(rt; played(ENOUGH), None);
     assert_eq!(rt;
         played(Sizes {
             policies: 1,
             ..ENOUGH
         }),
-        (7, 26)
+        Some((7, 26))
     );
-    assert_eq!(rt; played(Sizes { bads: 1, ..ENOUGH }), (7, 66));
-    assert_eq!(rt; played(Sizes { edges: 1, ..ENOUGH }), (7, 107));
-    assert_eq!(rt; played(Sizes { marks: 1, ..ENOUGH }), (7, 149));
-    assert_eq!(rt; played(Sizes { nodes: 1, ..ENOUGH }), (7, 178));
-    assert_eq!(rt; played(Sizes { defs: 1, ..ENOUGH }), (7, 213));
+    assert_eq!(rt; played(Sizes { bads: 1, ..ENOUGH }), Some((7, 66)));
+    assert_eq!(rt; played(Sizes { edges: 1, ..ENOUGH }), Some((7, 107)));
+    assert_eq!(rt; played(Sizes { marks: 1, ..ENOUGH }), Some((7, 149)));
+    assert_eq!(rt; played(Sizes { nodes: 1, ..ENOUGH }), Some((7, 178)));
+    assert_eq!(rt; played(Sizes { defs: 1, ..ENOUGH }), Some((7, 213)));
     assert_eq!(rt;
         played(Sizes {
             tariffs: 1,
             ..ENOUGH
         }),
-        (7, 242)
+        Some((7, 242))
     );
 }
 
@@ -139,16 +114,17 @@ fn left_by_a_refusal(rt: HostRuntime) {
         tariffs: &mut [],
     };
     let text = b"policy=0 states=3 start=1\nbad=0 state=2\nbad=0 state=1\n";
-    assert_eq!(rt; answer(text, &mut lists), (2, 40));
-    assert_eq!(rt;
-        (policies[0].policy, policies[0].states, policies[0].start),
-        (0, 3, 1)
-    );
-    assert_eq!(rt;
-        (policies[1].policy, policies[1].states, policies[1].start),
-        (9, 9, 9)
-    );
-    assert_eq!(rt; (bads[0].policy, bads[0].state), (0, 2));
-    assert_eq!(rt; (bads[1].policy, bads[1].state), (9, 9));
-    assert_eq!(rt; (nodes[0].node, nodes[0].a, nodes[0].b), (999, 9, 9));
+    assert_eq!(rt; refused(text, &mut lists), Some((2, 40)));
+    let policy = PolicyRecord {
+        policy: 0,
+        states: 3,
+        start: 1,
+    };
+    assert_eq!(rt; policies, [policy, POLICY]);
+    let bad = BadRecord {
+        policy: 0,
+        state: 2,
+    };
+    assert_eq!(rt; bads, [bad, BAD]);
+    assert_eq!(rt; nodes, [NODE; 2]);
 }

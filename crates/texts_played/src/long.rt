@@ -20,22 +20,38 @@ fn edges(heap: Global) -> Result<String, Fail> {
     Ok(text)
 }
 
-#[test]
-fn the_513th_edge(rt: HostRuntime) -> Result<(), Fail> {
-    let mut text = edges(rt.alloc())?;
+// Whether the text is accepted with these counts, and refused for a limit at one line more.
+fn play_limit(
+    rt: &impl Abort,
+    heap: Global,
+    mut text: String,
+    counts: &str,
+    line: &str,
+) -> Result<(), Fail> {
     play(
-        &rt,
-        rt.alloc(),
+        rt,
+        heap,
         &text,
-        "accepted policies=1 bads=0 edges=512 quota=none marks=0 nodes=0 defs=0 tariffs=0\n",
+        format!(in heap; "accepted {counts}\n")?.as_str(),
     )?;
     let place = text.len();
-    text.push_str("edge=0 from=7 event=64 to=7\n")?;
+    text.push_str(line)?;
     play(
+        rt,
+        heap,
+        &text,
+        format!(in heap; "refused=3 layer=table place={place}\n")?.as_str(),
+    )
+}
+
+#[test]
+fn the_513th_edge(rt: HostRuntime) -> Result<(), Fail> {
+    play_limit(
         &rt,
         rt.alloc(),
-        &text,
-        format!(in rt.alloc(); "refused=3 layer=table place={place}\n")?.as_str(),
+        edges(rt.alloc())?,
+        "policies=1 bads=0 edges=512 quota=none marks=0 nodes=0 defs=0 tariffs=0",
+        "edge=0 from=7 event=64 to=7\n",
     )
 }
 
@@ -53,39 +69,23 @@ fn table(heap: Global, nodes: u8, defs: u8) -> Result<String, Fail> {
 
 #[test]
 fn the_129th_node(rt: HostRuntime) -> Result<(), Fail> {
-    let mut text = table(rt.alloc(), 128, 0)?;
-    play(
+    play_limit(
         &rt,
         rt.alloc(),
-        &text,
-        "accepted policies=0 bads=0 edges=0 quota=none marks=0 nodes=128 defs=0 tariffs=0\n",
-    )?;
-    let place = text.len();
-    text.push_str("node=128 kind=z a=0 b=0\n")?;
-    play(
-        &rt,
-        rt.alloc(),
-        &text,
-        format!(in rt.alloc(); "refused=3 layer=table place={place}\n")?.as_str(),
+        table(rt.alloc(), 128, 0)?,
+        "policies=0 bads=0 edges=0 quota=none marks=0 nodes=128 defs=0 tariffs=0",
+        "node=128 kind=z a=0 b=0\n",
     )
 }
 
 #[test]
 fn the_33rd_definition(rt: HostRuntime) -> Result<(), Fail> {
-    let mut text = table(rt.alloc(), 1, 32)?;
-    play(
+    play_limit(
         &rt,
         rt.alloc(),
-        &text,
-        "accepted policies=0 bads=0 edges=0 quota=none marks=0 nodes=1 defs=32 tariffs=0\n",
-    )?;
-    let place = text.len();
-    text.push_str("def=32 node=0\n")?;
-    play(
-        &rt,
-        rt.alloc(),
-        &text,
-        format!(in rt.alloc(); "refused=3 layer=table place={place}\n")?.as_str(),
+        table(rt.alloc(), 1, 32)?,
+        "policies=0 bads=0 edges=0 quota=none marks=0 nodes=1 defs=32 tariffs=0",
+        "def=32 node=0\n",
     )
 }
 
@@ -94,10 +94,8 @@ fn the_65537th_byte(rt: HostRuntime) -> Result<(), Fail> {
     let mut text = edges(rt.alloc())?;
     let place = text.len();
     text.push_str("edge=")?;
-    for _ in 0..65536 {
-        if text.len() < 65536 {
-            text.push('9')?;
-        }
+    for _ in text.len()..65536 {
+        text.push('9')?;
     }
     assert_eq!(rt; text.len(), 65536);
     play(
