@@ -3,13 +3,15 @@ ghost use Rattle.std.specs.Prelude.{◌≡◌, if◌then◌else◌, Some, None, 
 ghost use Rattle.records.specs.Faults.{answer, refusal};
 ghost use Rattle.records.specs.declared.fault.Layer.TheVariants as layer;
 
-use crate::making::{BAD, FIVE, POLICY, SEVEN};
+use crate::making::{BAD, FIVE, POLICY, SEVEN, policy};
 use boards::board::Board;
 use boards::joined::Joined;
 use boards::journal::state_after;
 use boards::quota::Quota;
 use boards::translated::Translated;
 use records::fault::Fault;
+use records::record::PolicyRecord;
+use std::array;
 use std::test::Fail;
 use table_board::table::TableBoard;
 
@@ -46,7 +48,10 @@ fn quota_answers(rt: HostRuntime) -> Result<(), Fail> {
 fn quota_limits(rt: HostRuntime) -> Result<(), Fail> {
     assert_eq!(rt; nines(0)?.step(0, 0, 9), Some((1, true)));
     assert_eq!(rt; nines(6)?.states(0), Some(8));
-    assert_eq!(rt; nines(7).map_err(|fault| (fault.number(), fault.place())), Err((3, 0)));
+    assert_eq!(rt;
+        nines(7).map_err(|fault| (fault.number(), fault.place())),
+        Err((3, 0))
+    );
     Ok(())
 }
 
@@ -75,10 +80,7 @@ fn joined_answers(rt: HostRuntime) -> Result<(), Fail> {
 // Two boards of five policies each have eight together.
 #[test]
 fn joined_is_cut(rt: HostRuntime) -> Result<(), Fail> {
-    let mut policies = [POLICY; 5];
-    for (p, record) in policies.iter_mut().enumerate() {
-        record.policy = p as u64;
-    }
+    let mut policies: [PolicyRecord; 5] = array::from_fn(|p| policy(p as u64, 3, 0));
     let first = TableBoard::from_records(rt.alloc(), &policies, &[], &[])?;
     policies[2].states = 8;
     policies[2].start = 7;

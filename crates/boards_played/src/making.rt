@@ -8,6 +8,7 @@ use boards::board::Board;
 use boards::journal::state_after;
 use records::fault::{Fault, Layer};
 use records::record::{BadRecord, EdgeRecord, PolicyRecord};
+use std::array;
 use std::test::Fail;
 use table_board::table::TableBoard;
 
@@ -37,7 +38,7 @@ pub const SEVEN: EdgeRecord = EdgeRecord {
     to: 2,
 };
 
-fn policy(p: u64, states: u64, start: u64) -> PolicyRecord
+pub fn policy(p: u64, states: u64, start: u64) -> PolicyRecord
     ensures { result ≡ record { policy = p; states = states; start = start } }
 {
     PolicyRecord {
@@ -115,12 +116,7 @@ fn after_a_journal(rt: HostRuntime) -> Result<(), Fail> {
 // The largest board, and a start that is not 0.
 #[test]
 fn eight_policies(rt: HostRuntime) -> Result<(), Fail> {
-    let mut policies = [POLICY; 9];
-    for (p, record) in policies.iter_mut().enumerate() {
-        record.policy = p as u64;
-        record.states = 8;
-        record.start = 7;
-    }
+    let policies: [PolicyRecord; 9] = array::from_fn(|p| policy(p as u64, 8, 7));
     let edges = [edge(3, 7, 255, 1), edge(7, 7, 0, 2)];
     assert_eq!(rt;
         refused(TableBoard::from_records(rt.alloc(), &policies, &[], &[])),
@@ -206,11 +202,12 @@ fn edges_refused(rt: HostRuntime) {
 // 512 edges are taken, and one more is not.
 #[test]
 fn many_edges(rt: HostRuntime) -> Result<(), Fail> {
-    let mut edges = [FIVE; 513];
-    for (k, record) in edges.iter_mut().enumerate() {
-        record.from = (k / 256) as u64;
-        record.event = (k % 256) as u64;
-    }
+    let edges: [EdgeRecord; 513] = array::from_fn(|k| edge(
+        0,
+        (k / 256) as u64,
+        (k % 256) as u64,
+        1,
+    ));
     assert_eq!(rt;
         refused(TableBoard::from_records(rt.alloc(), &[POLICY], &[], &edges)),
         at(3, 512)
