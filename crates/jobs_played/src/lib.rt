@@ -12,6 +12,7 @@ mod tests {
     use jobs::table::Table;
     use records::fault::{Fault, Layer};
     use records::record::{DefRecord, Kind, NodeRecord};
+    use std::array;
     use std::test::Fail;
 
     const EMPTY: NodeRecord = NodeRecord {
@@ -134,14 +135,11 @@ mod tests {
 
     #[test]
     fn too_many(rt: HostRuntime) {
-        let mut nodes = [EMPTY; 129];
-        for (k, record) in nodes.iter_mut().enumerate() {
-            record.node = k as u64;
-        }
-        let mut defs = [JOB; 33];
-        for (d, record) in defs.iter_mut().enumerate() {
-            record.def = d as u64;
-        }
+        let nodes: [NodeRecord; 129] = array::from_fn(|n| node(n as u64, Kind::Empty, 0, 0));
+        let defs: [DefRecord; 33] = array::from_fn(|d| DefRecord {
+            def: d as u64,
+            node: 0,
+        });
         assert_eq!(rt;
             refused(Table::from_records(rt.alloc(), &nodes, &[])),
             at(3, 128)
