@@ -1,5 +1,6 @@
 -- What a board means: some policies, each with an automaton over events. Assumes nothing.
-use Rattle.std.specs.Prelude.{◌≡◌, ℕ, ◌<◌, ◌≤◌, Bool, if◌then◌else◌, List, Some, None, Option, nat_lt}
+use Rattle.std.specs.Prelude.{◌≡◌, ℕ, ◌<◌, ◌≤◌, Bool, ◌&&◌, List, Option, nat_lt}
+use Rattle.std.specs.Bool.{then_some}
 use Rattle.histories.specs.Automata.{Automaton, Offends, run}
 
 -- the policies are those below the count
@@ -19,19 +20,15 @@ pub record Sound (m : Meaning) : Type 0 where
   pub few : m.count ≤ 8
   pub closed : (p : ℕ) → p < m.count → Closed (m.automaton p)
 
--- an answer that is there only under a test
-abbrev pub when : {X : Type 0} → Bool → X → Option X
-when b x = if b then Some x else None
-
 -- What is answered about a policy and about a policy's state: nothing where it is not there.
 abbrev pub states_of : Meaning → ℕ → Option ℕ
-states_of m p = when (nat_lt p m.count) (m.automaton p).states
+states_of m p = then_some (nat_lt p m.count) (m.automaton p).states
 
 abbrev pub start_of : Meaning → ℕ → Option ℕ
-start_of m p = when (nat_lt p m.count) (m.automaton p).start
+start_of m p = then_some (nat_lt p m.count) (m.automaton p).start
 
 abbrev pub about_state : {X : Type 0} → Meaning → ℕ → ℕ → X → Option X
-about_state m p q x = if nat_lt p m.count then when (nat_lt q (m.automaton p).states) x else None
+about_state m p q x = then_some (nat_lt p m.count && nat_lt q (m.automaton p).states) x
 
 abbrev pub offends_of : Meaning → ℕ → ℕ → Option Bool
 offends_of m p q = about_state m p q ((m.automaton p).offends q)
@@ -45,7 +42,7 @@ step_of m p q e = about_state m p q (moved (m.automaton p) q e)
 
 -- the state of a policy after some events, from its start
 abbrev pub state_after : Meaning → ℕ → List ℕ → Option ℕ
-state_after m p es = when (nat_lt p m.count) (run (m.automaton p) (m.automaton p).start es)
+state_after m p es = then_some (nat_lt p m.count) (run (m.automaton p) (m.automaton p).start es)
 
 -- a history offends a policy of the board after a list of events
 pub record OffendsOn (m : Meaning) (p : ℕ) (past w : List ℕ) : Type 0 where
