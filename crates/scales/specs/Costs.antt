@@ -1,6 +1,6 @@
 -- Sum keeps the laws; sums of one cost are equal, since that the cost fits has one proof. Assumes nothing.
 use Rattle.std.specs.Prelude.{◌≡◌, ℕ, ◌≤◌}
-use Rattle.std.proofs.Common.{ap, subst, arith, rules}
+use Rattle.std.proofs.Common.{ap, subst, rules}
 use Rattle.std.proofs.Math.Bridge.{le_prop}
 use Rattle.scales.specs.Measures.{Laws}
 use Rattle.scales.specs.Scales.{sum}
@@ -14,14 +14,4 @@ unfolding of
 same_cost x y e = subst (λ n. (p : n ≤ 4294967295) → x ≡ of n p) e (λ p. ap (of x.cost) (le_prop x.fits p)) y.fits
 
 pub sum_laws : Laws sum
-sum_laws = record {
-  transitive = search rules;
-  total = search rules;
-  associative = λ x y z. same_cost _ _ (omega arith);
-  neutral_before = λ x. same_cost _ _ (omega arith);
-  neutral_behind = λ x. same_cost _ _ (omega arith);
-  not_below_first = search rules;
-  not_below_second = search rules;
-  kept_before = search rules;
-  kept_behind = search rules;
-}
+sum_laws = search (rules, same_cost)
