@@ -5,4 +5,5 @@ pub mod board;
 pub mod joined;
 pub mod journal;
 pub mod quota;
+mod side;
 pub mod translated;

@@ -1,0 +1,6 @@
+// Which of two joined boards a policy comes from, with its number there.
+#[derive(Clone, Copy, Debug, PartialEq, Eq)]
+pub enum Side {
+    First(u8),
+    Second(u8),
+}
