@@ -6,7 +6,7 @@ ghost use Rattle.records.specs.declared.fault.Layer.TheVariants as layer;
 
 use boards::board::Board;
 use boards::journal::state_after;
-use records::fault::{Fault, Layer};
+use records::fault::{Layer, refused};
 use records::record::{BadRecord, EdgeRecord, PolicyRecord};
 use std::array;
 use std::test::Fail;
@@ -65,21 +65,7 @@ fn edge(p: u64, from: u64, event: u64, to: u64) -> EdgeRecord
     }
 }
 
-// The number, the layer and the place of a refusal.
-fn refused(making: Result<TableBoard, Fault>) -> Option<(u8, Layer, usize)>
-    ensures { result ≡ option_map (λ t. (t.number, t.layer, t.place)) (answer making) }
-{
-    match making {
-        Ok(_) => None,
-        Err(fault) => Some((fault.number(), fault.layer(), fault.place())),
-    }
-}
-
-fn at(number: u8, place: usize) -> Option<(u8, Layer, usize)>
-    ensures { result ≡ Some (number, layer.Table, place) }
-{
-    Some((number, Layer::Table, place))
-}
+const TABLE: Layer = Layer::Table;
 
 #[test]
 fn answers(rt: HostRuntime) -> Result<(), Fail> {
@@ -119,8 +105,8 @@ fn eight_policies(rt: HostRuntime) -> Result<(), Fail> {
     let policies: [PolicyRecord; 9] = array::from_fn(|p| policy(p as u64, 8, 7));
     let edges = [edge(3, 7, 255, 1), edge(7, 7, 0, 2)];
     assert_eq!(rt;
-        refused(TableBoard::from_records(rt.alloc(), &policies, &[], &[])),
-        at(3, 8)
+        refused(&TableBoard::from_records(rt.alloc(), &policies, &[], &[])),
+        Some((3, TABLE, 8))
     );
     let board = TableBoard::from_records(rt.alloc(), &policies[0..8], &[bad(7, 2)], &edges)?;
     assert_eq!(rt; board.count(), 8);
@@ -143,16 +129,16 @@ fn no_policies(rt: HostRuntime) -> Result<(), Fail> {
 #[test]
 fn policies_refused(rt: HostRuntime) {
     let cases = [
-        (policy(2, 3, 0), at(2, 1)),
-        (policy(1, 0, 0), at(3, 1)),
-        (policy(1, 9, 0), at(3, 1)),
-        (policy(1, 8, 8), at(3, 1)),
-        (policy(1, 3, 3), at(4, 1)),
+        (policy(2, 3, 0), Some((2, TABLE, 1))),
+        (policy(1, 0, 0), Some((3, TABLE, 1))),
+        (policy(1, 9, 0), Some((3, TABLE, 1))),
+        (policy(1, 8, 8), Some((3, TABLE, 1))),
+        (policy(1, 3, 3), Some((4, TABLE, 1))),
         (policy(1, 8, 7), None),
     ];
     for (second, answer) in cases {
         assert_eq!(rt;
-            refused(TableBoard::from_records(rt.alloc(), &[POLICY, second], &[], &[])),
+            refused(&TableBoard::from_records(rt.alloc(), &[POLICY, second], &[], &[])),
             answer
         );
     }
@@ -161,17 +147,17 @@ fn policies_refused(rt: HostRuntime) {
 #[test]
 fn bads_refused(rt: HostRuntime) {
     let cases = [
-        (bad(0, 1), at(2, 1)),
-        (bad(0, 0), at(2, 1)),
-        (bad(8, 0), at(3, 1)),
-        (bad(0, 8), at(3, 1)),
-        (bad(1, 0), at(4, 1)),
-        (bad(0, 3), at(4, 1)),
+        (bad(0, 1), Some((2, TABLE, 1))),
+        (bad(0, 0), Some((2, TABLE, 1))),
+        (bad(8, 0), Some((3, TABLE, 1))),
+        (bad(0, 8), Some((3, TABLE, 1))),
+        (bad(1, 0), Some((4, TABLE, 1))),
+        (bad(0, 3), Some((4, TABLE, 1))),
         (bad(0, 2), None),
     ];
     for (second, answer) in cases {
         assert_eq!(rt;
-            refused(TableBoard::from_records(rt.alloc(), &[POLICY], &[bad(0, 1), second], &[])),
+            refused(&TableBoard::from_records(rt.alloc(), &[POLICY], &[bad(0, 1), second], &[])),
             answer
         );
     }
@@ -180,20 +166,20 @@ fn bads_refused(rt: HostRuntime) {
 #[test]
 fn edges_refused(rt: HostRuntime) {
     let cases = [
-        (edge(0, 0, 5, 2), at(2, 1)),
-        (edge(0, 0, 4, 2), at(2, 1)),
-        (edge(8, 0, 5, 2), at(3, 1)),
-        (edge(0, 8, 5, 2), at(3, 1)),
-        (edge(0, 0, 256, 2), at(3, 1)),
-        (edge(0, 1, 5, 8), at(3, 1)),
-        (edge(1, 0, 5, 2), at(4, 1)),
-        (edge(0, 3, 5, 2), at(4, 1)),
-        (edge(0, 1, 5, 3), at(4, 1)),
+        (edge(0, 0, 5, 2), Some((2, TABLE, 1))),
+        (edge(0, 0, 4, 2), Some((2, TABLE, 1))),
+        (edge(8, 0, 5, 2), Some((3, TABLE, 1))),
+        (edge(0, 8, 5, 2), Some((3, TABLE, 1))),
+        (edge(0, 0, 256, 2), Some((3, TABLE, 1))),
+        (edge(0, 1, 5, 8), Some((3, TABLE, 1))),
+        (edge(1, 0, 5, 2), Some((4, TABLE, 1))),
+        (edge(0, 3, 5, 2), Some((4, TABLE, 1))),
+        (edge(0, 1, 5, 3), Some((4, TABLE, 1))),
         (edge(0, 0, 6, 2), None),
     ];
     for (second, answer) in cases {
         assert_eq!(rt;
-            refused(TableBoard::from_records(rt.alloc(), &[POLICY], &[], &[FIVE, second])),
+            refused(&TableBoard::from_records(rt.alloc(), &[POLICY], &[], &[FIVE, second])),
             answer
         );
     }
@@ -209,8 +195,8 @@ fn many_edges(rt: HostRuntime) -> Result<(), Fail> {
         1,
     ));
     assert_eq!(rt;
-        refused(TableBoard::from_records(rt.alloc(), &[POLICY], &[], &edges)),
-        at(3, 512)
+        refused(&TableBoard::from_records(rt.alloc(), &[POLICY], &[], &edges)),
+        Some((3, TABLE, 512))
     );
     let board = TableBoard::from_records(rt.alloc(), &[POLICY], &[], &edges[0..512])?;
     assert_eq!(rt; board.step(0, 0, 0), Some((1, false)));
@@ -225,15 +211,15 @@ fn first_break(rt: HostRuntime) {
     let bads = [bad(0, 3)];
     let edges = [edge(0, 0, 256, 0)];
     assert_eq!(rt;
-        refused(TableBoard::from_records(rt.alloc(), &[policy(0, 3, 3)], &bads, &edges)),
-        at(4, 0)
+        refused(&TableBoard::from_records(rt.alloc(), &[policy(0, 3, 3)], &bads, &edges)),
+        Some((4, TABLE, 0))
     );
     assert_eq!(rt;
-        refused(TableBoard::from_records(rt.alloc(), &[POLICY], &bads, &edges)),
-        at(4, 0)
+        refused(&TableBoard::from_records(rt.alloc(), &[POLICY], &bads, &edges)),
+        Some((4, TABLE, 0))
     );
     assert_eq!(rt;
-        refused(TableBoard::from_records(rt.alloc(), &[POLICY], &[BAD], &edges)),
-        at(3, 0)
+        refused(&TableBoard::from_records(rt.alloc(), &[POLICY], &[BAD], &edges)),
+        Some((3, TABLE, 0))
     );
 }

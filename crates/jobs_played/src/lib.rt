@@ -10,7 +10,7 @@ ghost use Rattle.records.specs.Faults.{answer};
 mod tests {
     use jobs::node::Node;
     use jobs::table::Table;
-    use records::fault::{Fault, Layer};
+    use records::fault::{Layer, refused};
     use records::record::{DefRecord, Kind, NodeRecord};
     use std::array;
     use std::test::Fail;
@@ -42,21 +42,7 @@ mod tests {
         }
     }
 
-    // The number, the layer and the place of a refusal.
-    fn refused(making: Result<Table, Fault>) -> Option<(u8, Layer, usize)>
-        ensures { result ≡ option_map (λ t. (t.number, t.layer, t.place)) (answer making) }
-    {
-        match making {
-            Ok(_) => None,
-            Err(fault) => Some((fault.number(), fault.layer(), fault.place())),
-        }
-    }
-
-    fn at(number: u8, place: usize) -> Option<(u8, Layer, usize)>
-        ensures { result ≡ Some (number, layer.Table, place) }
-    {
-        Some((number, Layer::Table, place))
-    }
+    const TABLE: Layer = Layer::Table;
 
     #[test]
     fn accepted(rt: HostRuntime) -> Result<(), Fail> {
@@ -100,36 +86,36 @@ mod tests {
             node(3, Kind::Empty, 0, 0),
         ];
         assert_eq!(rt;
-            refused(Table::from_records(rt.alloc(), &nodes, &[])),
-            at(2, 2)
+            refused(&Table::from_records(rt.alloc(), &nodes, &[])),
+            Some((2, TABLE, 2))
         );
         assert_eq!(rt;
-            refused(Table::from_records(rt.alloc(), &[EMPTY], &[JOB, JOB])),
-            at(2, 1)
+            refused(&Table::from_records(rt.alloc(), &[EMPTY], &[JOB, JOB])),
+            Some((2, TABLE, 1))
         );
     }
 
     #[test]
     fn past_a_limit(rt: HostRuntime) {
         assert_eq!(rt;
-            refused(Table::from_records(rt.alloc(), &[EMPTY, node(1, Kind::Event, 256, 0)], &[])),
-            at(3, 1)
+            refused(&Table::from_records(rt.alloc(), &[EMPTY, node(1, Kind::Event, 256, 0)], &[])),
+            Some((3, TABLE, 1))
         );
         assert_eq!(rt;
-            refused(Table::from_records(rt.alloc(), &[EMPTY, node(1, Kind::Choice, 0, 128)], &[])),
-            at(3, 1)
+            refused(&Table::from_records(rt.alloc(), &[EMPTY, node(1, Kind::Choice, 0, 128)], &[])),
+            Some((3, TABLE, 1))
         );
         assert_eq!(rt;
-            refused(Table::from_records(rt.alloc(), &[EMPTY, node(1, Kind::Frame, 8, 0)], &[])),
-            at(3, 1)
+            refused(&Table::from_records(rt.alloc(), &[EMPTY, node(1, Kind::Frame, 8, 0)], &[])),
+            Some((3, TABLE, 1))
         );
         assert_eq!(rt;
-            refused(Table::from_records(rt.alloc(), &[node(0, Kind::Call, 32, 0)], &[])),
-            at(3, 0)
+            refused(&Table::from_records(rt.alloc(), &[node(0, Kind::Call, 32, 0)], &[])),
+            Some((3, TABLE, 0))
         );
         assert_eq!(rt;
-            refused(Table::from_records(rt.alloc(), &[EMPTY], &[DefRecord { def: 0, node: 128 }])),
-            at(3, 0)
+            refused(&Table::from_records(rt.alloc(), &[EMPTY], &[DefRecord { def: 0, node: 128 }])),
+            Some((3, TABLE, 0))
         );
     }
 
@@ -141,15 +127,15 @@ mod tests {
             node: 0,
         });
         assert_eq!(rt;
-            refused(Table::from_records(rt.alloc(), &nodes, &[])),
-            at(3, 128)
+            refused(&Table::from_records(rt.alloc(), &nodes, &[])),
+            Some((3, TABLE, 128))
         );
         assert_eq!(rt;
-            refused(Table::from_records(rt.alloc(), &nodes[0..128], &defs)),
-            at(3, 32)
+            refused(&Table::from_records(rt.alloc(), &nodes[0..128], &defs)),
+            Some((3, TABLE, 32))
         );
         assert_eq!(rt;
-            refused(Table::from_records(rt.alloc(), &nodes[0..128], &defs[0..32])),
+            refused(&Table::from_records(rt.alloc(), &nodes[0..128], &defs[0..32])),
             None
         );
     }
@@ -157,20 +143,20 @@ mod tests {
     #[test]
     fn not_there(rt: HostRuntime) {
         assert_eq!(rt;
-            refused(Table::from_records(rt.alloc(), &[EVENT, node(1, Kind::Seq, 0, 1)], &[])),
-            at(4, 1)
+            refused(&Table::from_records(rt.alloc(), &[EVENT, node(1, Kind::Seq, 0, 1)], &[])),
+            Some((4, TABLE, 1))
         );
         assert_eq!(rt;
-            refused(Table::from_records(
+            refused(&Table::from_records(
                 rt.alloc(),
                 &[EVENT],
                 &[JOB, DefRecord { def: 1, node: 1 }],
             )),
-            at(4, 1)
+            Some((4, TABLE, 1))
         );
         assert_eq!(rt;
-            refused(Table::from_records(rt.alloc(), &[node(0, Kind::Call, 1, 0)], &[JOB])),
-            at(4, 0)
+            refused(&Table::from_records(rt.alloc(), &[node(0, Kind::Call, 1, 0)], &[JOB])),
+            Some((4, TABLE, 0))
         );
         let calls = [
             EMPTY,
@@ -179,8 +165,8 @@ mod tests {
             node(3, Kind::Call, 1, 0),
         ];
         assert_eq!(rt;
-            refused(Table::from_records(rt.alloc(), &calls, &[JOB])),
-            at(4, 2)
+            refused(&Table::from_records(rt.alloc(), &calls, &[JOB])),
+            Some((4, TABLE, 2))
         );
     }
 
@@ -189,16 +175,16 @@ mod tests {
     fn first_break(rt: HostRuntime) {
         let calls = [node(0, Kind::Call, 9, 0), node(1, Kind::Event, 256, 0)];
         assert_eq!(rt;
-            refused(Table::from_records(rt.alloc(), &calls, &[JOB, JOB])),
-            at(3, 1)
+            refused(&Table::from_records(rt.alloc(), &calls, &[JOB, JOB])),
+            Some((3, TABLE, 1))
         );
         assert_eq!(rt;
-            refused(Table::from_records(rt.alloc(), &calls[0..1], &[JOB, JOB])),
-            at(2, 1)
+            refused(&Table::from_records(rt.alloc(), &calls[0..1], &[JOB, JOB])),
+            Some((2, TABLE, 1))
         );
         assert_eq!(rt;
-            refused(Table::from_records(rt.alloc(), &calls[0..1], &[JOB])),
-            at(4, 0)
+            refused(&Table::from_records(rt.alloc(), &calls[0..1], &[JOB])),
+            Some((4, TABLE, 0))
         );
     }
 }

@@ -43,11 +43,27 @@ const BAD: BadRecord = BadRecord {
     state: 9,
 };
 
+const EDGE: EdgeRecord = EdgeRecord {
+    policy: 9,
+    from: 9,
+    event: 9,
+    to: 9,
+};
+
+const MARK: MarkRecord = MarkRecord { event: 999 };
+
 const NODE: NodeRecord = NodeRecord {
     node: 999,
     kind: Kind::Call,
     a: 9,
     b: 9,
+};
+
+const DEF: DefRecord = DefRecord { def: 99, node: 9 };
+
+const TARIFF: TariffRecord = TariffRecord {
+    event: 999,
+    cost: 9,
 };
 
 // The number and the place of the refusal of a reading.
@@ -58,13 +74,13 @@ fn refused(text: &[u8], lists: &mut Lists) -> Option<(u8, usize)> {
 
 // The refusal of the text for lists of these sizes.
 fn played(sizes: Sizes) -> Option<(u8, usize)> {
-    let mut policies = [PolicyRecord::default(); 2];
-    let mut bads = [BadRecord::default(); 2];
-    let mut edges = [EdgeRecord::default(); 2];
-    let mut marks = [MarkRecord::default(); 2];
-    let mut nodes = [NodeRecord::default(); 2];
-    let mut defs = [DefRecord::default(); 2];
-    let mut tariffs = [TariffRecord::default(); 2];
+    let (mut policies, mut bads, mut edges) = ([POLICY; 2], [BAD; 2], [EDGE; 2]);
+    let (mut marks, mut nodes, mut defs, mut tariffs) = (
+        [MARK; 2],
+        [NODE; 2],
+        [DEF; 2],
+        [TARIFF; 2],
+    );
     let mut lists = Lists {
         policies: &mut policies[..sizes.policies.min(2)],
         bads: &mut bads[..sizes.bads.min(2)],
