@@ -1,6 +1,7 @@
 -- What records say that keep the rules. Assumes nothing.
-use Rattle.std.proofs.Common.{◌≡◌, ℕ, ◌<◌, ◌≤◌, true, ◌&&◌, eqb, ltb, leb, List, [], length, take, None, ◌∙◌, ⊎_elim, arith}
-use Rattle.std.proofs.lemmas.List.{length-take-le}
+use Rattle.std.proofs.Common.{◌≡◌, ℕ, suc, ◌<◌, ◌≤◌, Bool, true, false, cond, ◌&&◌, eqb, ltb, leb, List, [], ◌∷◌, length, take, Some, None, Option, unwrap_or, sym, refl, ap, ◌∙◌, subst, ⊎_elim, arith}
+use Rattle.std.specs.List.{Contains}
+use Rattle.std.proofs.lemmas.List.{get_or_default, length-take-le}
 use Rattle.std.proofs.lemmas.Bool.{and_parts, cases_lt, eqb-true, leb-true, ltb-true}
 use Rattle.records.specs.declared.record.Line.TheVariants as line
 use Rattle.records.specs.declared.record.PolicyRecord.{PolicyRecord}
@@ -8,16 +9,16 @@ use Rattle.records.specs.declared.record.BadRecord.{BadRecord}
 use Rattle.records.specs.declared.record.EdgeRecord.{EdgeRecord}
 use Rattle.records.specs.Rules.{no_bads, no_quota, rises_edge, state_there}
 use Rattle.records.proofs.Kept.{kept}
-use Rattle.boards.specs.Tables.{policy_at}
+use Rattle.boards.specs.Meanings.{Closed, Sound}
+use Rattle.boards.specs.Tables.{edge_to, is_edge, policy_at, policy_of, tabled}
 use Rattle.table_board.specs.Making.{Kept, edge_at, edge_breach, only_board, policy_breach}
-use Rattle.table_board.specs.Laid.{EdgesFit, PoliciesFit}
 
 -- policy record k
 pub record PolicyKept (policies : List PolicyRecord) (k : ℕ) : Type 0 where
+  pub number : (policy_at policies k).policy ≡ k
   pub low : k < 8
   pub some : 1 ≤ (policy_at policies k).states
   pub eight : (policy_at policies k).states ≤ 8
-  pub limit : (policy_at policies k).start < 8
   pub starts : (policy_at policies k).start < (policy_at policies k).states
 
 -- edge record k
@@ -27,6 +28,12 @@ pub record EdgeKept (policies : List PolicyRecord) (edges : List EdgeRecord) (k 
   pub event : (edge_at edges k).event < 256
   pub limit : (edge_at edges k).to < 8
   pub leads : (edge_at edges k).to < (policy_at policies (edge_at edges k).policy).states
+
+-- what a policy record says of its own policy
+pub record PolicySays (policies : List PolicyRecord) (bads : List BadRecord) (edges : List EdgeRecord) (r : PolicyRecord) : Type 0 where
+  pub start : r.start ≡ (policy_at policies r.policy).start
+  pub states : r.states ≡ (policy_at policies r.policy).states
+  pub closed : Closed (policy_of policies bads edges r.policy)
 
 policy_kept : (policies : List PolicyRecord) (k : ℕ) → k < length policies → policy_breach policies k ≡ None → PolicyKept policies k
 policy_kept policies k h e =
@@ -40,10 +47,10 @@ policy_kept policies k h e =
     let two = and_parts (ltb 0 r.states) (leb r.states 8 && ltb r.start 8) one.1 in
     let three = and_parts (leb r.states 8) (ltb r.start 8) two.1 in
     record {
+      number = number;
       low = omega (arith, number, ltb-true r.policy 8 one.0);
       some = omega (arith, ltb-true 0 r.states two.0);
       eight = leb-true r.states 8 three.0;
-      limit = ltb-true r.start 8 three.1;
       starts = ltb-true r.start r.states all.there;
     }
 
@@ -66,6 +73,17 @@ edge_kept policies bads edges k e =
       leads = ltb-true r.to (policy_at policies r.policy).states to.1;
     }
 
+-- where the edges of policy p lead is a state, if each of them leads to one
+edge_leads : (edges : List EdgeRecord) (p q e n : ℕ) → ((k : ℕ) → k < length edges → (edge_at edges k).policy ≡ p → (edge_at edges k).to < n) → q < n → unwrap_or (edge_to edges p q e) q < n
+edge_leads [] p q e n each inside = inside
+edge_leads (r ∷ edges) p q e n each inside =
+    go (edge_to edges p q e) (is_edge r p q e) refl (edge_leads edges p q e n (λ k h. each (suc k) (omega arith)) inside)
+  where
+    go : (o : Option ℕ) (b : Bool) → is_edge r p q e ≡ b → unwrap_or o q < n → unwrap_or (elim o as (λ _. Option ℕ) [ Some to ↦ Some to | None ↦ cond (is_edge r p q e) (Some r.to) None ]) q < n
+    go (Some to) b h low = low
+    go None true h low = rw h (each 0 (omega arith) (eqb-true r.policy p (and_parts (eqb r.policy p) (eqb r.from q && eqb r.event e) h).0))
+    go None false h low = rw h inside
+
 module _ {policies : List PolicyRecord} {bads : List BadRecord} {edges : List EdgeRecord} (all : Kept policies bads edges) where
   pub each_policy : (k : ℕ) → k < length policies → PolicyKept policies k
   each_policy k h = policy_kept policies k h (all.every_policy k h)
@@ -73,12 +91,28 @@ module _ {policies : List PolicyRecord} {bads : List BadRecord} {edges : List Ed
   pub each_edge : (k : ℕ) → k < length edges → EdgeKept policies edges k
   each_edge k h = edge_kept policies bads edges k (all.every_edge k h)
 
-  pub policies_fit : PoliciesFit policies
-  policies_fit k h = let r = each_policy k h in record { states = r.eight; start = r.limit }
+  -- the automata are closed, and there are at most eight
+  pub tabled_sound : Sound (tabled policies bads edges)
+  tabled_sound = record {
+    few = ⊎_elim (λ more. let low : 8 < 8 = (each_policy 8 more).low in omega arith) (λ le. le) (cases_lt 8 (length policies));
+    closed = λ p there.
+        let policy = each_policy p there in
+        record {
+          some = policy.some;
+          few = policy.eight;
+          starts = policy.starts;
+          stays = λ q e inside.
+              edge_leads edges p q e (policy_at policies p).states (λ k h same. subst (λ n. (edge_at edges k).to < (policy_at policies n).states) same (each_edge k h).leads) inside;
+        };
+  }
 
-  pub edges_fit : EdgesFit edges
-  edges_fit k h = let r = each_edge k h in record { event = r.event; to = r.limit }
-
-  -- there are at most eight policies
-  pub few_policies : length policies ≤ 8
-  few_policies = ⊎_elim (λ more. let low : 8 < 8 = (each_policy 8 more).low in omega arith) (λ le. le) (cases_lt 8 (length policies))
+  pub each_says : (r : PolicyRecord) → Contains policies r → PolicySays policies bads edges r
+  each_says r at =
+      let same : policy_at policies at.0 ≡ r = get_or_default policies at.0 _ r at.1 ∙ at.2 in
+      let number : at.0 ≡ r.policy = sym (each_policy at.0 at.1).number ∙ ap (λ (x : PolicyRecord). x.policy) same in
+      let here : r ≡ policy_at policies r.policy = sym same ∙ ap (policy_at policies) number in
+      record {
+        start = ap (λ (x : PolicyRecord). x.start) here;
+        states = ap (λ (x : PolicyRecord). x.states) here;
+        closed = tabled_sound.closed r.policy (omega (arith, number, at.1));
+      }

@@ -1,4 +1,5 @@
 -- Definitions that the contracts cite.
 pub mod Rows
+pub mod Policies
 pub mod Making
-pub mod Laid
+pub mod Building

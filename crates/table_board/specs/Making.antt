@@ -12,11 +12,11 @@ use Rattle.records.specs.Rules.{Records, breach}
 use Rattle.boards.specs.Meanings.{Meaning, Same}
 use Rattle.boards.specs.Tables.{edge_to, policy_at, tabled}
 use Rattle.table_board.specs.declared.table.TableBoard.{TableBoard}
-use Rattle.table_board.specs.Rows.{laid_out}
+use Rattle.table_board.specs.Policies.{laid_out}
 
 -- what a table board means
 abbrev pub meaning_of : TableBoard → Meaning
-meaning_of board = laid_out (vec_items board.heads) (vec_items board.rows)
+meaning_of board = laid_out (vec_items board.policies)
 
 -- these policies, bads and edges, and no other records
 abbrev pub only_board : List PolicyRecord → List BadRecord → List EdgeRecord → Records

@@ -1,19 +1,16 @@
 // Makes a table board from the records of its policies, bads and edges.
-ghost use Rattle.std.specs.Prelude.{◌≡◌, ◌*◌, ◌≤◌, map, length, IfOk, MatchResult};
+ghost use Rattle.std.specs.Prelude.{◌≡◌, length, MatchResult};
 ghost use Rattle.records.specs.Breaks.{FirstBreak, Keep};
 ghost use Rattle.records.specs.Faults.{told};
 ghost use Rattle.records.specs.Rules.{held};
-ghost use Rattle.boards.specs.Meanings.{Same};
-ghost use Rattle.boards.specs.Tables.{bad_in, tabled};
-ghost use Rattle.table_board.specs.Laid.{EdgesFit, PoliciesFit, RowSays, RowsSay, Targets, head_of};
-ghost use Rattle.table_board.specs.Making.{Broken, Kept, Makes, Only, bad_breach, edge_breach, meaning_of, only_board, policy_breach};
+ghost use Rattle.table_board.specs.Making.{Broken, Kept, Makes, Only, bad_breach, edge_breach, only_board, policy_breach};
 
-use crate::rows::{Head, Row};
+use crate::building::made_board;
 use crate::table::TableBoard;
 use records::fault::Fault;
 use records::record::{BadRecord, EdgeRecord, Line, PolicyRecord, Sofar};
 use records::rules::check;
-use std::alloc::{AllocError, Global};
+use std::alloc::Global;
 
 // These policies, bads and edges, and no other records.
 fn records_of<'a>(
@@ -88,91 +85,6 @@ fn check_records(
     check_policies(policies)?;
     check_bads(policies, bads)?;
     check_edges(policies, bads, edges)
-}
-
-// Whether a bad record makes the state offend.
-fn is_bad(bads: &[BadRecord], policy: u64, state: u64) -> bool
-    ensures { result ≡ bad_in bads.now policy state }
-{
-    for bad in bads {
-        if bad.policy == policy && bad.state == state {
-            return true;
-        }
-    }
-    false
-}
-
-// Where the edges of a policy lead from a state, event by event.
-fn edges_from(edges: &[EdgeRecord], policy: u64, state: u64) -> [Option<u8>; 256]
-    requires { EdgesFit edges.now }
-    ensures { Targets edges.now policy state result }
-{
-    let mut targets = [None; 256];
-    for edge in edges {
-        if edge.policy == policy && edge.from == state {
-            targets[edge.event as usize] = Some(edge.to as u8);
-        }
-    }
-    targets
-}
-
-// The row of a policy's state.
-fn row_of(bads: &[BadRecord], edges: &[EdgeRecord], policy: u64, state: u64) -> Row
-    requires { EdgesFit edges.now }
-    ensures { RowSays bads.now edges.now policy state result }
-{
-    Row {
-        offends: is_bad(bads, policy, state),
-        edges: edges_from(edges, policy, state),
-    }
-}
-
-// Eight rows for each policy.
-fn made_rows(
-    heap: Global,
-    count: usize,
-    bads: &[BadRecord],
-    edges: &[EdgeRecord],
-) -> Result<Vec<Row>, AllocError>
-    requires few { count ≤ 8 }
-    requires edges { EdgesFit edges.now }
-    ensures { IfOk result (λ v. RowsSay bads.now edges.now (8 * count) v.items) }
-{
-    let mut rows = Vec::new(heap);
-    for i in 0..8 * count {
-        rows.push(row_of(bads, edges, (i / 8) as u64, (i % 8) as u64))?;
-    }
-    Ok(rows)
-}
-
-fn made_heads(heap: Global, policies: &[PolicyRecord]) -> Result<Vec<Head>, AllocError>
-    requires { PoliciesFit policies.now }
-    ensures { IfOk result (λ v. v.items ≡ map head_of policies.now) }
-{
-    let mut heads = Vec::new(heap);
-    for from in policies {
-        heads.push(Head {
-            states: from.states as u8,
-            start: from.start as u8,
-        })?;
-    }
-    Ok(heads)
-}
-
-// The board of records that keep all rules, if there is memory for it.
-fn made_board(
-    heap: Global,
-    policies: &[PolicyRecord],
-    bads: &[BadRecord],
-    edges: &[EdgeRecord],
-) -> Result<TableBoard, AllocError>
-    requires { Kept policies.now bads.now edges.now }
-    ensures { IfOk result (λ board. Same (meaning_of board) (tabled policies.now bads.now edges.now)) }
-{
-    Ok(TableBoard {
-        heads: made_heads(heap, policies)?,
-        rows: made_rows(heap, policies.len(), bads, edges)?,
-    })
 }
 
 impl TableBoard {

@@ -1,0 +1,107 @@
+// Builds a table board from records that keep the rules.
+ghost use Rattle.std.specs.Prelude.{◌≡◌, IfOk};
+ghost use Rattle.boards.specs.Meanings.{Same};
+ghost use Rattle.boards.specs.Tables.{tabled};
+ghost use Rattle.table_board.specs.Making.{Kept, meaning_of};
+
+use crate::policy::{Policy, Row};
+use crate::table::TableBoard;
+use records::record::{BadRecord, EdgeRecord, PolicyRecord};
+use std::alloc::{AllocError, Global};
+
+// Policies, bads and edges that keep the rules.
+#[derive(Clone, Copy)]
+struct Source<'a> {
+    policies: &'a [PolicyRecord],
+    bads: &'a [BadRecord],
+    edges: &'a [EdgeRecord],
+    ghost kept: { Kept policies.now bads.now edges.now },
+}
+
+impl Source<'_> {
+    ghost use Rattle.std.specs.Prelude.{IfOk, ◌≡◌, ◌≤◌};
+    ghost use Rattle.std.specs.List.{Contains};
+    ghost use Rattle.boards.specs.Meanings.{Same, SameAutomaton};
+    ghost use Rattle.boards.specs.Tables.{bad_in};
+    ghost use Rattle.table_board.specs.Policies.{automaton_of, laid_out};
+    ghost use Rattle.table_board.specs.Building.{AreRowsOf, IsRowOf, meant};
+
+    // Whether a bad record makes the state offend.
+    fn is_bad(&self, policy: u64, state: u64) -> bool
+        ensures { result ≡ bad_in self.now.bads.now policy state }
+    {
+        self.bads
+            .iter()
+            .any(|bad| bad.policy == policy && bad.state == state)
+    }
+
+    // The row of a policy's state. A missing edge leaves the state.
+    fn row(&self, policy: u64, state: u8) -> Row
+        ensures { IsRowOf ((meant self.now).automaton policy) state result }
+    {
+        let from = u64::from(state);
+        let mut next = [state; 256];
+        for edge in self.edges {
+            if edge.policy == policy && edge.from == from {
+                next[edge.event as usize] = edge.to as u8;
+            }
+        }
+        Row {
+            offends: self.is_bad(policy, from),
+            next,
+        }
+    }
+
+    // A row for each state.
+    fn rows(&self, heap: Global, policy: u64, states: u8) -> Result<Vec<Row>, AllocError>
+        ensures { IfOk result (λ rows. AreRowsOf ((meant self.now).automaton policy) states rows.items) }
+    {
+        let mut rows = Vec::new(heap);
+        for state in 0..states {
+            rows.push(self.row(policy, state))?;
+        }
+        Ok(rows)
+    }
+
+    // The policy of a record.
+    fn policy(&self, heap: Global, given: PolicyRecord) -> Result<Policy, AllocError>
+        requires { Contains self.now.policies.now given }
+        ensures { IfOk result (λ policy. SameAutomaton (automaton_of policy) ((meant self.now).automaton given.policy)) }
+    {
+        Ok(Policy {
+            start: given.start as u8,
+            rows: self.rows(heap, given.policy, given.states as u8)?,
+        })
+    }
+
+    // A policy for each record.
+    fn policies(&self, heap: Global) -> Result<Vec<Policy>, AllocError>
+        ensures { IfOk result (λ policies. Same (laid_out policies.items) (meant self.now)) }
+    {
+        let mut made = Vec::new(heap);
+        for given in self.policies {
+            made.push(self.policy(heap, *given)?)?;
+        }
+        Ok(made)
+    }
+}
+
+// The board of records that keep all rules, if there is memory for it.
+pub(crate) fn made_board(
+    heap: Global,
+    policies: &[PolicyRecord],
+    bads: &[BadRecord],
+    edges: &[EdgeRecord],
+) -> Result<TableBoard, AllocError>
+    requires { Kept policies.now bads.now edges.now }
+    ensures { IfOk result (λ board. Same (meaning_of board) (tabled policies.now bads.now edges.now)) }
+{
+    let source = Source {
+        policies,
+        bads,
+        edges,
+    };
+    Ok(TableBoard {
+        policies: source.policies(heap)?,
+    })
+}
