@@ -1,13 +1,14 @@
 -- What records say that keep the rules. Assumes nothing.
-use Rattle.std.proofs.Common.{◌≡◌, ℕ, suc, ◌<◌, ◌≤◌, Bool, true, false, cond, ◌&&◌, eqb, ltb, leb, List, [], ◌∷◌, length, take, Some, None, Option, unwrap_or, sym, refl, ap, ◌∙◌, subst, ⊎_elim, arith}
+use Rattle.std.proofs.Common.{◌≡◌, ℕ, suc, ◌<◌, ◌≤◌, Bool, true, false, cond, ◌&&◌, eqb, List, [], ◌∷◌, length, take, Some, None, Option, unwrap_or, sym, refl, ap, ◌∙◌, subst, ⊎_elim, arith}
 use Rattle.std.specs.List.{Contains}
 use Rattle.std.proofs.lemmas.List.{get_or_default, length-take-le}
-use Rattle.std.proofs.lemmas.Bool.{and_parts, cases_lt, eqb-true, leb-true, ltb-true}
+use Rattle.std.proofs.lemmas.Bool.Decides.{nat_tests}
+use Rattle.std.proofs.lemmas.Bool.{and_parts, cases_lt, eqb-true}
 use Rattle.records.specs.declared.record.Line.TheVariants as line
 use Rattle.records.specs.declared.record.PolicyRecord.{PolicyRecord}
 use Rattle.records.specs.declared.record.BadRecord.{BadRecord}
 use Rattle.records.specs.declared.record.EdgeRecord.{EdgeRecord}
-use Rattle.records.specs.Rules.{no_bads, no_quota, rises_edge, state_there}
+use Rattle.records.specs.Rules.{rises_edge}
 use Rattle.records.proofs.Kept.{kept}
 use Rattle.boards.specs.Meanings.{Closed, Sound}
 use Rattle.boards.specs.Tables.{edge_to, is_edge, policy_at, policy_of, tabled}
@@ -37,40 +38,24 @@ pub record PolicySays (policies : List PolicyRecord) (bads : List BadRecord) (ed
 
 policy_kept : (policies : List PolicyRecord) (k : ℕ) → k < length policies → policy_breach policies k ≡ None → PolicyKept policies k
 policy_kept policies k h e =
-    let r = policy_at policies k in
-    let before = only_board (take k policies) [] [] in
-    let all = kept before (line.Policy r) e in
-    let within : k ≤ length policies = omega arith in
-    let order = and_parts (no_bads before) (eqb r.policy (length (take k policies))) all.order in
-    let number : r.policy ≡ k = eqb-true r.policy (length (take k policies)) order.1 ∙ length-take-le k policies within in
-    let one = and_parts (ltb r.policy 8) (ltb 0 r.states && (leb r.states 8 && ltb r.start 8)) all.limits in
-    let two = and_parts (ltb 0 r.states) (leb r.states 8 && ltb r.start 8) one.1 in
-    let three = and_parts (leb r.states 8) (ltb r.start 8) two.1 in
+    let all = kept (only_board (take k policies) [] []) (line.Policy (policy_at policies k)) e in
     record {
-      number = number;
-      low = omega (arith, number, ltb-true r.policy 8 one.0);
-      some = omega (arith, ltb-true 0 r.states two.0);
-      eight = leb-true r.states 8 three.0;
-      starts = ltb-true r.start r.states all.there;
+      number = grind (arith, nat_tests, length-take-le);
+      low = grind (arith, nat_tests, length-take-le);
+      some = grind (arith, nat_tests);
+      eight = grind (arith, nat_tests);
+      starts = grind (arith, nat_tests);
     }
 
 edge_kept : (policies : List PolicyRecord) (bads : List BadRecord) (edges : List EdgeRecord) (k : ℕ) → edge_breach policies bads edges k ≡ None → EdgeKept policies edges k
 edge_kept policies bads edges k e =
-    let r = edge_at edges k in
-    let before = only_board policies bads (take k edges) in
-    let all = kept before (line.Edge r) e in
-    let one = and_parts (ltb (length (take k edges)) 512) (ltb r.policy 8 && (ltb r.from 8 && (ltb r.event 256 && ltb r.to 8))) all.limits in
-    let two = and_parts (ltb r.policy 8) (ltb r.from 8 && (ltb r.event 256 && ltb r.to 8)) one.1 in
-    let three = and_parts (ltb r.from 8) (ltb r.event 256 && ltb r.to 8) two.1 in
-    let four = and_parts (ltb r.event 256) (ltb r.to 8) three.1 in
-    let there = and_parts (state_there policies r.policy r.from) (state_there policies r.policy r.to) all.there in
-    let to = and_parts (ltb r.policy (length policies)) (ltb r.to (policy_at policies r.policy).states) there.1 in
+    let all = kept (only_board policies bads (take k edges)) (line.Edge (edge_at edges k)) e in
     record {
-      rises = (and_parts (no_quota before) (rises_edge (take k edges) r) all.order).1;
-      state = ltb-true r.from 8 three.0;
-      event = ltb-true r.event 256 four.0;
-      limit = ltb-true r.to 8 four.1;
-      leads = ltb-true r.to (policy_at policies r.policy).states to.1;
+      rises = grind (arith, nat_tests);
+      state = grind (arith, nat_tests);
+      event = grind (arith, nat_tests);
+      limit = grind (arith, nat_tests);
+      leads = grind (arith, nat_tests);
     }
 
 -- where the edges of policy p lead is a state, if each of them leads to one

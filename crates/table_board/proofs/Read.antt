@@ -1,33 +1,35 @@
--- What one record more says. Assumes nothing.
-use Rattle.std.proofs.Common.{◌≡◌, ℕ, ◌+◌, ◌<◌, Bool, true, false, cond, ◌&&◌, ◌||◌, eqb, List, [], ◌∷◌, ◌++◌, length, take, Some, None, Option, unwrap_or, refl, ap}
+-- What the bads and the edges say of a state. Assumes nothing.
+use Rattle.std.proofs.Common.{◌≡◌, ℕ, ◌<◌, cond, ◌&&◌, ◌||◌, eqb, List, [], ◌∷◌, length, get_or, set, Some, None, Option, unwrap_or, fold, refl, ap, ◌∙◌, arith}
 use Rattle.std.specs.List.{list_any}
-use Rattle.std.proofs.lemmas.List.{take_more}
+use Rattle.std.proofs.lemmas.Bool.Decides.{nat_tests}
+use Rattle.std.proofs.lemmas.Grind.{common_steps}
 use Rattle.records.specs.declared.record.BadRecord.{BadRecord}
 use Rattle.records.specs.declared.record.EdgeRecord.{EdgeRecord}
 use Rattle.boards.specs.Tables.{bad_in, edge_to, is_edge}
-use Rattle.table_board.specs.Making.{edge_at}
 
 pub bad_in-list_any : (bads : List BadRecord) (p q : ℕ) → bad_in bads p q ≡ list_any (λ r. eqb r.policy p && eqb r.state q) bads
 bad_in-list_any [] p q = refl
 bad_in-list_any (r ∷ bads) p q = ap (λ b. (eqb r.policy p && eqb r.state q) || b) (bad_in-list_any bads p q)
 
--- the edge behind some others counts
-edge_push : (edges : List EdgeRecord) (r : EdgeRecord) (p q e : ℕ) → edge_to (edges ++ (r ∷ [])) p q e ≡ cond (is_edge r p q e) (Some r.to) (edge_to edges p q e)
-edge_push [] r p q e = refl
-edge_push (x ∷ edges) r p q e = rw (edge_push edges r p q e) (go (is_edge r p q e))
-  where
-    go : (b : Bool) → elim (cond b (Some r.to) (edge_to edges p q e)) as (λ _. Option ℕ) [ Some to ↦ Some to | None ↦ cond (is_edge x p q e) (Some x.to) None ]
-        ≡ cond b (Some r.to) (edge_to (x ∷ edges) p q e)
-    go true = refl
-    go false = refl
+-- an edge from state q of policy p is written at its event
+abbrev pub written : ℕ → ℕ → List ℕ → EdgeRecord → List ℕ
+written p q next r = cond (eqb r.policy p && eqb r.from q) (set next r.event r.to) next
 
--- where the edges lead from a state, with one edge more
-pub led_more : (edges : List EdgeRecord) (i p q e : ℕ) → i < length edges
-    → unwrap_or (edge_to (take (i + 1) edges) p q e) q ≡ cond (is_edge (edge_at edges i) p q e) (edge_at edges i).to (unwrap_or (edge_to (take i edges) p q e) q)
-led_more edges i p q e within =
-    let last = edge_at edges i in
-    rw (take_more edges i (record { policy = 0; from = 0; event = 0; to = 0 }) within, edge_push (take i edges) last p q e) (go (is_edge last p q e))
+length-written : (p q : ℕ) (next : List ℕ) (r : EdgeRecord) → length (written p q next r) ≡ length next
+length-written p q next r = grind (arith, nat_tests, common_steps)
+
+get_or-written : (p q e : ℕ) (next : List ℕ) (r : EdgeRecord) → e < length next → get_or (written p q next r) e 0 ≡ unwrap_or (cond (is_edge r p q e) (Some r.to) None) (get_or next e 0)
+get_or-written p q e next r low = grind (arith, nat_tests, common_steps)
+
+pub length-fold-written : (edges : List EdgeRecord) (p q : ℕ) (next : List ℕ) → length (fold (written p q) next edges) ≡ length next
+length-fold-written [] p q next = refl
+length-fold-written (r ∷ edges) p q next = length-fold-written edges p q (written p q next r) ∙ length-written p q next r
+
+pub get_or-fold-written : (edges : List EdgeRecord) (p q e : ℕ) (next : List ℕ) → e < length next → get_or (fold (written p q) next edges) e 0 ≡ unwrap_or (edge_to edges p q e) (get_or next e 0)
+get_or-fold-written [] p q e next low = refl
+get_or-fold-written (r ∷ edges) p q e next low =
+    get_or-fold-written edges p q e (written p q next r) (omega (arith, length-written p q next r)) ∙ go (edge_to edges p q e)
   where
-    go : (b : Bool) → unwrap_or (cond b (Some (edge_at edges i).to) (edge_to (take i edges) p q e)) q ≡ cond b (edge_at edges i).to (unwrap_or (edge_to (take i edges) p q e) q)
-    go true = refl
-    go false = refl
+    go : (o : Option ℕ) → unwrap_or o (get_or (written p q next r) e 0) ≡ unwrap_or (elim o as (λ _. Option ℕ) [ Some to ↦ Some to | None ↦ cond (is_edge r p q e) (Some r.to) None ]) (get_or next e 0)
+    go (Some to) = refl
+    go None = get_or-written p q e next r low

@@ -56,11 +56,9 @@ impl Source<'_> {
     fn rows(&self, heap: Global, policy: u64, states: u8) -> Result<Vec<Row>, AllocError>
         ensures { IfOk result (λ rows. AreRowsOf ((meant self.now).automaton policy) states rows.items) }
     {
-        let mut rows = Vec::new(heap);
-        for state in 0..states {
-            rows.push(self.row(policy, state))?;
-        }
-        Ok(rows)
+        (0..states)
+            .map(|state| self.row(policy, state))
+            .collect(heap)
     }
 
     // The policy of a record.

@@ -5,7 +5,7 @@ ghost use Rattle.table_board.specs.Policies.{laid_out, sound};
 use crate::policy::{Policy, Row};
 use boards::board::Board;
 
-// At most eight policies.
+// A policy for each policy record: at most eight.
 #[derive(Drop)]
 pub struct TableBoard {
     pub(crate) policies: Vec<Policy>,
@@ -17,7 +17,7 @@ impl TableBoard {
     fn row(&self, p: u8, q: u8) -> Option<&Row>
         ensures { option_copied result ≡ option_and_then (λ policy. slice_get (vec_items policy.rows) q) (slice_get self.now.policies.items p) }
     {
-        self.policies.get(p as usize)?.rows.get(q as usize)
+        self.policies.get(usize::from(p))?.rows.get(usize::from(q))
     }
 }
 
@@ -32,12 +32,12 @@ impl Board for TableBoard {
 
     fn states(&self, p: u8) -> Option<u8> {
         self.policies
-            .get(p as usize)
+            .get(usize::from(p))
             .map(|policy| policy.rows.len() as u8)
     }
 
     fn start(&self, p: u8) -> Option<u8> {
-        self.policies.get(p as usize).map(|policy| policy.start)
+        self.policies.get(usize::from(p)).map(|policy| policy.start)
     }
 
     fn offends(&self, p: u8, q: u8) -> Option<bool> {
@@ -45,7 +45,7 @@ impl Board for TableBoard {
     }
 
     fn step(&self, p: u8, q: u8, e: u8) -> Option<(u8, bool)> {
-        let next = self.row(p, q)?.next[e as usize];
+        let next = self.row(p, q)?.next[usize::from(e)];
         Some((next, self.offends(p, next)?))
     }
 }
