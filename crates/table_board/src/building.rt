@@ -1,8 +1,10 @@
 // Builds a table board from records that keep the rules.
 ghost use Rattle.std.specs.Prelude.{◌≡◌, IfOk};
-ghost use Rattle.boards.specs.Meanings.{Same};
-ghost use Rattle.boards.specs.Tables.{tabled};
+ghost use Rattle.std.specs.List.{Contains};
+ghost use Rattle.boards.specs.Meanings.{Same, SameAutomaton};
+ghost use Rattle.boards.specs.Tables.{bad_in, tabled};
 ghost use Rattle.table_board.specs.Making.{Kept, meaning_of};
+ghost use Rattle.table_board.specs.Policies.{automaton_of, laid_out};
 
 use crate::policy::{Policy, Row};
 use crate::table::TableBoard;
@@ -19,11 +21,6 @@ struct Source<'a> {
 }
 
 impl Source<'_> {
-    ghost use Rattle.std.specs.Prelude.{IfOk, ◌≡◌, ◌≤◌};
-    ghost use Rattle.std.specs.List.{Contains};
-    ghost use Rattle.boards.specs.Meanings.{Same, SameAutomaton};
-    ghost use Rattle.boards.specs.Tables.{bad_in};
-    ghost use Rattle.table_board.specs.Policies.{automaton_of, laid_out};
     ghost use Rattle.table_board.specs.Building.{AreRowsOf, IsRowOf, meant};
 
     // Whether a bad record makes the state offend.

@@ -4,5 +4,5 @@
 mod building;
 pub mod laws;
 pub mod making;
-pub mod policy;
+mod policy;
 pub mod table;

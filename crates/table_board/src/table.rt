@@ -1,5 +1,5 @@
 // The table board: its policies are given by records, edge by edge.
-ghost use Rattle.std.specs.Prelude.{◌≡◌, ◌≤◌, length, option_copied, option_and_then, slice_get, vec_items};
+ghost use Rattle.std.specs.Prelude.{◌≡◌, ◌≤◌, length, option_copied, option_and_then, slice_get};
 ghost use Rattle.table_board.specs.Policies.{laid_out, sound};
 
 use crate::policy::{Policy, Row};
@@ -15,7 +15,7 @@ pub struct TableBoard {
 impl TableBoard {
     // The row of a policy's state.
     fn row(&self, p: u8, q: u8) -> Option<&Row>
-        ensures { option_copied result ≡ option_and_then (λ policy. slice_get (vec_items policy.rows) q) (slice_get self.now.policies.items p) }
+        ensures { option_copied result ≡ option_and_then (λ policy. slice_get policy.rows.items q) (slice_get self.now.policies.items p) }
     {
         self.policies.get(usize::from(p))?.rows.get(usize::from(q))
     }
