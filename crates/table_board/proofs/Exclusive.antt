@@ -1,11 +1,12 @@
 -- A making has one answer, but for want of memory. Assumes nothing.
-use Rattle.std.proofs.Common.{◌≡◌, List, Some, Result, refl, ap, inl, inr}
+use Rattle.std.proofs.Common.{◌≡◌, List, Result}
 use Rattle.records.specs.declared.fault.Fault.{Fault}
 use Rattle.records.specs.declared.record.PolicyRecord.{PolicyRecord}
 use Rattle.records.specs.declared.record.BadRecord.{BadRecord}
 use Rattle.records.specs.declared.record.EdgeRecord.{EdgeRecord}
 use Rattle.records.specs.Faults.{Refusal}
 use Rattle.records.proofs.Breaks.{apart, same_break}
+use Rattle.records.proofs.Makings as making
 use Rattle.table_board.specs.declared.table.TableBoard.{TableBoard}
 use Rattle.table_board.specs.Making.{Broken, Kept, Makes, Only}
 
@@ -28,6 +29,4 @@ module _ {policies : List PolicyRecord} {bads : List BadRecord} {edges : List Ed
   unbroken all (Broken.edge keep also x) = apart x all.every_edge
 
   pub only : {r : Result TableBoard Fault} → Makes policies bads edges r → Only policies bads edges r
-  only (Makes.made all same) = record { broken = λ tells first. absurd (unbroken all first); kept = λ _. inl refl }
-  only (Makes.refused first) = record { broken = λ tells other. ap Some (one_refusal first other); kept = λ all. absurd (unbroken all first) }
-  only (Makes.no_memory all says) = record { broken = λ tells first. absurd (unbroken all first); kept = λ _. inr (ap Some says) }
+  only = making.only (λ s t. one_refusal) (λ t. unbroken)

@@ -1,13 +1,13 @@
 -- What the making of a table board from records answers. Assumes nothing.
-use Rattle.std.specs.Prelude.{◌≡◌, ℕ, ◌<◌, ◌⊎◌, List, [], length, take, Some, None, Ok, Err, vec_items, Option, Result, slice_index_or}
+use Rattle.std.specs.Prelude.{◌≡◌, ℕ, ◌<◌, List, [], length, take, Some, None, vec_items, Option, Result, slice_index_or}
 use Rattle.records.specs.declared.fault.Fault.{Fault}
-use Rattle.records.specs.declared.fault.Layer.TheVariants as layer
 use Rattle.records.specs.declared.record.Line.TheVariants as line
 use Rattle.records.specs.declared.record.PolicyRecord.{PolicyRecord}
 use Rattle.records.specs.declared.record.BadRecord.{BadRecord}
 use Rattle.records.specs.declared.record.EdgeRecord.{EdgeRecord}
 use Rattle.records.specs.Breaks.{FirstBreak, Keep}
-use Rattle.records.specs.Faults.{Refusal, answer, refusal, told}
+use Rattle.records.specs.Faults.{Refusal}
+use Rattle.records.specs.Makings as making
 use Rattle.records.specs.Rules.{Records, breach}
 use Rattle.boards.specs.Meanings.{Meaning, Same}
 use Rattle.boards.specs.Tables.{edge_to, policy_at, tabled}
@@ -52,15 +52,12 @@ module _ (policies : List PolicyRecord) (bads : List BadRecord) (edges : List Ed
     edge : Keep (policy_breach policies) (length policies) → Keep (bad_breach policies bads) (length bads) → FirstBreak (edge_breach policies bads edges) (length edges) tells → Broken tells
 
   -- what a making answers: a board that means what the records say where all rules are kept, else the refusal of the first break; or that memory is wanting, once all rules are kept
-  pub data Makes : Result TableBoard Fault → Type 0 where
-    made : {board : TableBoard} → Kept → Same (meaning_of board) (tabled policies bads edges) → Makes (Ok board)
-    refused : {fault : Fault} → Broken (told fault) → Makes (Err fault)
-    no_memory : {fault : Fault} → Kept → told fault ≡ refusal 99 layer.Table 0 → Makes (Err fault)
+  abbrev pub Makes : Result TableBoard Fault → Type 0
+  Makes = making.Makes Kept Broken (λ board. Same (meaning_of board) (tabled policies bads edges))
 
   -- a break has no other answer than its refusal, and records that keep all rules are refused for want of memory only
-  pub record Only (r : Result TableBoard Fault) : Type 0 where
-    pub broken : (tells : Refusal) → Broken tells → answer r ≡ Some tells
-    pub kept : Kept → (answer r ≡ None) ⊎ (answer r ≡ Some (refusal 99 layer.Table 0))
+  abbrev pub Only : Result TableBoard Fault → Type 0
+  Only = making.Only Kept Broken (λ (board : TableBoard). Same (meaning_of board) (tabled policies bads edges))
 
 -- records that keep the rules have one edge at most for a policy, a state and an event: each edge record leads where it says
 abbrev pub EdgesAreObeyed : Type 0

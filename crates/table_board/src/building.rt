@@ -1,27 +1,49 @@
-// Builds a table board from records that keep the rules.
-ghost use Rattle.std.specs.Prelude.{◌≡◌, IfOk};
+// Builds the policies of a table board from records that keep the rules.
+ghost use Rattle.std.specs.Prelude.{◌≡◌, IfOk, MatchResult};
 ghost use Rattle.std.specs.List.{Contains};
+ghost use Rattle.records.specs.Faults.{told};
 ghost use Rattle.boards.specs.Meanings.{Same, SameAutomaton};
-ghost use Rattle.boards.specs.Tables.{bad_in, tabled};
-ghost use Rattle.table_board.specs.Making.{Kept, meaning_of};
+ghost use Rattle.boards.specs.Tables.{bad_in};
+ghost use Rattle.table_board.specs.Making.{Broken, Kept};
 ghost use Rattle.table_board.specs.Policies.{automaton_of, laid_out};
 
 use crate::policy::{Policy, Row};
-use crate::table::TableBoard;
-use records::record::{BadRecord, EdgeRecord, PolicyRecord};
+use records::fault::Fault;
+use records::record::{BadRecord, EdgeRecord, PolicyRecord, Sofar};
+use records::rules::check_each;
 use std::alloc::{AllocError, Global};
 
 // Policies, bads and edges that keep the rules.
 #[derive(Clone, Copy)]
-struct Source<'a> {
+pub(crate) struct Source<'a> {
     policies: &'a [PolicyRecord],
     bads: &'a [BadRecord],
     edges: &'a [EdgeRecord],
     ghost kept: { Kept policies.now bads.now edges.now },
 }
 
-impl Source<'_> {
+impl<'a> Source<'a> {
     ghost use Rattle.table_board.specs.Building.{AreRowsOf, IsRowOf, meant};
+
+    // These records, or the first break of a rule.
+    pub(crate) fn checked(
+        policies: &'a [PolicyRecord],
+        bads: &'a [BadRecord],
+        edges: &'a [EdgeRecord],
+    ) -> Result<Source<'a>, Fault>
+        ensures { MatchResult result (λ source. (source.policies.now ≡ policies.now) × (source.bads.now ≡ bads.now) × (source.edges.now ≡ edges.now)) (λ fault. Broken policies.now bads.now edges.now (told fault)) }
+    {
+        let none = Sofar::default();
+        check_each(none, policies)?;
+        let behind = Sofar { policies, ..none };
+        check_each(behind, bads)?;
+        check_each(Sofar { bads, ..behind }, edges)?;
+        Ok(Source {
+            policies,
+            bads,
+            edges,
+        })
+    }
 
     // Whether a bad record makes the state offend.
     fn is_bad(&self, policy: u64, state: u64) -> bool
@@ -70,7 +92,7 @@ impl Source<'_> {
     }
 
     // A policy for each record.
-    fn policies(&self, heap: Global) -> Result<Vec<Policy>, AllocError>
+    pub(crate) fn policies(&self, heap: Global) -> Result<Vec<Policy>, AllocError>
         ensures { IfOk result (λ policies. Same (laid_out policies.items) (meant self.now)) }
     {
         let mut made = Vec::new(heap);
@@ -79,24 +101,4 @@ impl Source<'_> {
         }
         Ok(made)
     }
-}
-
-// The board of records that keep all rules, if there is memory for it.
-pub(crate) fn made_board(
-    heap: Global,
-    policies: &[PolicyRecord],
-    bads: &[BadRecord],
-    edges: &[EdgeRecord],
-) -> Result<TableBoard, AllocError>
-    requires { Kept policies.now bads.now edges.now }
-    ensures { IfOk result (λ board. Same (meaning_of board) (tabled policies.now bads.now edges.now)) }
-{
-    let source = Source {
-        policies,
-        bads,
-        edges,
-    };
-    Ok(TableBoard {
-        policies: source.policies(heap)?,
-    })
 }

@@ -2,8 +2,6 @@
 ghost use Rattle.table_board.specs.Making.{EdgesAreObeyed};
 
 // Each edge record leads where it says.
-pub fn edges_are_obeyed() -> u8
+pub fn edges_are_obeyed()
     ensures { EdgesAreObeyed }
-{
-    0
-}
+{}

@@ -1,6 +1,0 @@
-use Rattle.std.proofs.Common.{arith}
-use Rattle.table_board.proofs.Fits.{tabled_sound}
-use Rattle.table_board.proofs.building.made_board.Goals as goal
-
-pub invariant_of-result : goal.invariant_of-result
-invariant_of-result c = record { few = omega (arith, c.in_ok-policies.ensures.count, (tabled_sound c.requires).few) }
