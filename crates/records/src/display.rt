@@ -3,6 +3,7 @@ ghost use Rattle.records.specs.Faults.{layer_word, refusal_text, told};
 ghost use Rattle.std.specs.Prelude.{Some};
 
 use crate::fault::{Fault, Layer};
+use std::error::Error;
 use std::fmt;
 
 impl fmt::Display for Layer {
@@ -29,3 +30,5 @@ impl fmt::Display for Fault {
         write!(f, "refused={number} layer={layer} place={place}")
     }
 }
+
+impl Error for Fault {}
