@@ -27,6 +27,7 @@ impl Quota {
         Ok(Quota { k, marked })
     }
 
+    // Where event e leads from state q.
     fn next(&self, q: u8, e: u8) -> u8
         ensures { result ≡ (counter self.now.k self.now.marked).next q e }
     {

@@ -13,6 +13,7 @@ pub struct Ordered {
 }
 
 impl Ordered {
+    // Where event e leads from state q.
     fn next(&self, q: u8, e: u8) -> u8
         ensures { result ≡ (order self.now.first self.now.then).next q e }
     {

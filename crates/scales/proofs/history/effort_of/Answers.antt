@@ -1,5 +1,4 @@
 use Rattle.std.proofs.Common.{◌<◌, ◌≤◌, get_or, sym, ◌∙◌, rules}
-use Rattle.std.proofs.lemmas.List.{take_all}
 use Rattle.scales.proofs.Joins.{effort-nil, effort-priced, effort-unpriced}
 use Rattle.scales.proofs.history.effort_of.Goals as goal
 use Rattle.scales.proofs.history.effort_of.Goals.{in-Some, in_default}
@@ -22,8 +21,3 @@ loop-symbol-preserved g c =
           let more = effort-unpriced laws c.args.costs.now history i c.loop-symbol-test.true high in
           cc (w.total-is, c.loop-symbol.invariant)
     ]
-
-pub returns : goal.returns
-returns g c =
-    let all = take_all _ _ c.loop-symbol-test.false in
-    cc
