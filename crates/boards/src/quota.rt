@@ -1,5 +1,5 @@
 // A board of one policy that allows k marked events.
-ghost use Rattle.std.specs.Prelude.{◌≡◌, ◌≤◌, IfOk, if◌then◌else◌, Some, None, nat_le};
+ghost use Rattle.std.specs.Prelude.{◌≡◌, ◌≤◌, length, IfOk, if◌then◌else◌, Some, None, nat_le};
 ghost use Rattle.records.specs.declared.fault.Layer.TheVariants as layer;
 ghost use Rattle.records.specs.Faults.{answer, refusal};
 ghost use Rattle.boards.specs.Quotas.{counter, quota};
@@ -13,6 +13,7 @@ pub struct Quota {
     k: u8,
     marked: [bool; 256],
     ghost small: { k ≤ 6 },
+    ghost whole: { length marked ≡ 256 },
 }
 
 impl Quota {
