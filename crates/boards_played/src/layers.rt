@@ -100,10 +100,7 @@ fn joined_is_cut(rt: HostRuntime) -> Result<(), Fail> {
 // Every event is read as the one behind it.
 #[test]
 fn translated_answers(rt: HostRuntime) -> Result<(), Fail> {
-    let mut map = [0; 256];
-    for (e, to) in map.iter_mut().enumerate() {
-        *to = ((e + 1) % 256) as u8;
-    }
+    let map: [u8; 256] = array::from_fn(|e| ((e + 1) % 256) as u8);
     let board = Translated {
         below: nines(1)?,
         map,
