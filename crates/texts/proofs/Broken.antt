@@ -1,8 +1,7 @@
 -- The first rule that a line breaks. Assumes nothing.
-use Rattle.std.proofs.Common.{◌≡◌, ℕ, ◌≤◌, Bool, true, false, cond, Some, None, Option, sym, refl, ap, ◌∙◌, arith}
+use Rattle.std.proofs.Common.{◌≡◌, ℕ, ◌≤◌, Bool, true, false, cond, Some, None, Option, refl, arith}
 use Rattle.records.specs.declared.fault.Layer.TheVariants.{Table}
 use Rattle.records.specs.declared.record.Line.{Line}
-use Rattle.records.proofs.Kept.{some_none}
 use Rattle.records.specs.Faults.{Refusal, at_place, refusal}
 use Rattle.records.specs.Rules.{Records, breach, in_limits, in_order, is_there}
 use Rattle.texts.specs.Contents.{Room, broken, has_room}
@@ -11,38 +10,6 @@ use Rattle.texts.specs.Contents.{Room, broken, has_room}
 abbrev tested : Option ℕ → Bool → Option ℕ
 tested o b = elim o [ None ↦ cond b None (Some 7) | Some n ↦ Some n ]
 
-module _ (place : ℕ) where
-  first : (o : Option ℕ) (b : Bool) (x : Refusal) → Some x ≡ at_place place o → Some x ≡ at_place place (tested o b)
-  first None b x e = absurd (some_none x e)
-  first (Some n) b x e = e
-
-  then : (o : Option ℕ) (b : Bool) → None ≡ at_place place o → at_place place (cond b None (Some 7)) ≡ at_place place (tested o b)
-  then None b e = refl
-  then (Some n) b e = absurd (some_none _ (sym e))
-
-  module _ (room : Room) (rs : Records) (line : Line) where
-    pub breaks_first : (x : Refusal) → Some x ≡ at_place place (breach rs line) → Some x ≡ at_place place (broken room rs line)
-    unfolding broken
-    breaks_first x e = first (breach rs line) (has_room room rs line) x e
-
-    pub breaks_room : None ≡ at_place place (breach rs line) → has_room room rs line ≡ false → Some (refusal 7 Table place) ≡ at_place place (broken room rs line)
-    unfolding broken
-    breaks_room good e = ap (λ b. at_place place (cond b None (Some 7))) (sym e) ∙ then (breach rs line) (has_room room rs line) good
-
-    pub breaks_none : None ≡ at_place place (breach rs line) → has_room room rs line ≡ true → None ≡ at_place place (broken room rs line)
-    unfolding broken
-    breaks_none good e = ap (λ b. at_place place (cond b None (Some 7))) (sym e) ∙ then (breach rs line) (has_room room rs line) good
-
--- a line that breaks no rule has room
-pub room_from : (room : Room) (rs : Records) (line : Line) → broken room rs line ≡ None → has_room room rs line ≡ true
-unfolding broken
-room_from room rs line e = by (breach rs line) (has_room room rs line) e
-  where
-    by : (o : Option ℕ) (b : Bool) → tested o b ≡ None → b ≡ true
-    by None true e = refl
-    by None false e = absurd (some_none 7 e)
-    by (Some n) b e = absurd (some_none n e)
-
 -- a line that breaks no rule keeps those of its record
 pub breach_from : (room : Room) (rs : Records) (line : Line) → broken room rs line ≡ None → breach rs line ≡ None
 unfolding broken
@@ -50,16 +17,16 @@ breach_from room rs line e = by (breach rs line) (has_room room rs line) e
   where
     by : (o : Option ℕ) (b : Bool) → tested o b ≡ None → o ≡ None
     by None b e = refl
-    by (Some n) b e = absurd (some_none n e)
+    by (Some n) b e = cc
 
 -- what an answer tells at a place
 pub no_breach : (place : ℕ) (o : Option ℕ) → None ≡ at_place place o → o ≡ None
 no_breach place None e = refl
-no_breach place (Some n) e = absurd (some_none _ (sym e))
+no_breach place (Some n) e = cc
 
 pub one_breach : (place : ℕ) (o : Option ℕ) (x : Refusal) → Some x ≡ at_place place o → (n : ℕ) × (o ≡ Some n) × (x ≡ refusal n Table place)
-one_breach place None x e = absurd (some_none x e)
-one_breach place (Some n) x e = (n, refl, let same : ◌≡◌ {A = Option Refusal} (Some x) (Some (refusal n Table place)) = e in cc)
+one_breach place None x e = cc
+one_breach place (Some n) x e = (n, refl, cc)
 
 -- the rules of records have numbers up to 4
 breach_small : (rs : Records) (line : Line) (n : ℕ) → breach rs line ≡ Some n → n ≤ 4
@@ -67,7 +34,7 @@ unfolding breach
 breach_small rs line n e = by (in_order rs line) (in_limits rs line) (is_there rs line) e
   where
     by : (a b c : Bool) → ◌≡◌ {A = Option ℕ} (cond a (cond b (cond c None (Some 4)) (Some 3)) (Some 2)) (Some n) → n ≤ 4
-    by true true true e = absurd (some_none n (sym e))
+    by true true true e = cc
     by true true false e = let same : 4 ≡ n = cc in omega arith
     by true false c e = let same : 3 ≡ n = cc in omega arith
     by false b c e = let same : 2 ≡ n = cc in omega arith
@@ -78,6 +45,6 @@ unfolding broken
 seven_is_room room rs line e = by (breach rs line) (has_room room rs line) refl e
   where
     by : (o : Option ℕ) (b : Bool) → breach rs line ≡ o → tested o b ≡ Some 7 → (o ≡ None) × (b ≡ false)
-    by None true is e = absurd (some_none 7 (sym e))
+    by None true is e = cc
     by None false is e = (refl, refl)
     by (Some n) b is e = let same : n ≡ 7 = cc in absurd (omega (arith, breach_small rs line n is))

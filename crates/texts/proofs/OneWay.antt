@@ -1,7 +1,8 @@
 -- A text has one outcome. Assumes nothing.
-use Rattle.std.proofs.Common.{◌≡◌, ℕ, ◌≤◌, Bool, true, false, List, ◌++◌, length, take, drop, Some, None, Ok, Err, Option, Result, sym, refl, ap, ◌∙◌, subst, ⊎_elim, arith}
+use Rattle.std.proofs.Common.{◌≡◌, ℕ, ◌≤◌, Bool, true, false, List, ◌++◌, length, take, drop, Some, None, Ok, Err, Option, Result, IsErrAnd, sym, refl, ap, ◌∙◌, subst, ⊎_elim, arith}
 use borrow.Author.Tests.{both_ways}
 use Rattle.std.proofs.lemmas.List.{length_push, length-take-le, take-append-drop}
+use Rattle.std.proofs.lemmas.Result.{err_from_is_err_and}
 use Rattle.std.proofs.str.Laws.{order}
 use Rattle.records.proofs.Kept.{some_none}
 use Rattle.records.proofs.Told.{told_apart}
@@ -15,9 +16,9 @@ use Rattle.records.specs.Rules.{AllCalled, FirstUncalled, Records, added, call_t
 use Rattle.texts.proofs.Apart.{same_line}
 use Rattle.texts.proofs.Outcomes.{Ends, Onward, linear, one_outcome}
 use Rattle.texts.proofs.Places.{goes_on, node_counts}
-use Rattle.texts.specs.Contents.{Contents, Room, front, sizes}
+use Rattle.texts.specs.Contents.{Contents, Overwritten, Room, front, sizes}
 use Rattle.texts.specs.Lines.{LineAt}
-use Rattle.texts.specs.Readings.{NodeAt, OnlyOutcome, Outcome, Overwritten, Passed, ReadTo, Refused, UndefinedCall}
+use Rattle.texts.specs.Readings.{AllThere, NodeAt, OnlyOutcome, Outcome, Passed, ReadTo, Refused, UndefinedCall}
 use Rattle.texts.specs.declared.lists.Counts.{Counts}
 
 -- a list with the same front and the same rest
@@ -141,6 +142,23 @@ module _ {text : List ℕ} {before : Contents} where
   pub only : {after : Contents} {r : Result Counts Fault} → Outcome text before after r → OnlyOutcome text before after r
   only o other answer p = one_way p o
 
+-- a refusal that is passed on
+pub passed_on : {text : List ℕ} {before after : Contents} {fault : Fault} (r : Result Counts Fault) → IsErrAnd r (λ f. f ≡ fault) → Outcome text before after (Err fault) → Outcome text before after r
+passed_on r e o = let p = err_from_is_err_and r e in rw (p.1, p.2) o
+
 -- the last test of a reading
-pub uncalled : {text : List ℕ} {before after : Contents} {counts : Counts} {fault : Fault} → length text ≤ 65536 → ReadTo text before after (length text) counts → UndefinedCall text (front counts after).nodes counts.defs (told fault) → Outcome text before after (Err fault)
-uncalled short read call = Outcome.undefined_call short read call.first (call.stands _ _ read.passed call.first.within) call.is
+module _ {text : List ℕ} {before after : Contents} {counts : Counts} {rs : Records} (short : length text ≤ 65536) (read : ReadTo text before after (length text) counts) (is : rs ≡ front counts after) where
+  defs : length (front counts after).defs ≡ counts.defs
+  defs = length-take-le counts.defs after.defs read.defs.within
+
+  pub uncalled : {fault : Fault} → UndefinedCall text rs (told fault) → Outcome text before after (Err fault)
+  uncalled {fault} call =
+      let moved = subst (λ r. UndefinedCall text r (told fault)) is call in
+      let first = subst (λ d. FirstUncalled (front counts after).nodes d moved.node) defs moved.first in
+      Outcome.undefined_call short read first (moved.stands _ _ read.passed first.within) moved.is
+
+  pub called : AllThere rs → Outcome text before after (Ok counts)
+  called all =
+      let moved = subst AllThere is all in
+      let nodes = length-take-le counts.nodes after.nodes read.nodes.within in
+      Outcome.accepted short read (subst (λ n. AllCalled (front counts after).nodes counts.defs n) nodes (subst (λ d. AllCalled (front counts after).nodes d (length (front counts after).nodes)) defs moved))

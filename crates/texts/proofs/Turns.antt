@@ -1,103 +1,90 @@
 -- One line more of a reading. Assumes nothing.
-use Rattle.std.proofs.Common.{◌≡◌, ℕ, ◌+◌, ◌<◌, true, ltb, List, [], ◌∷◌, ◌++◌, length, take, drop, set, Some, None, sym, refl, ap, ◌∙◌, subst, inr, arith, ltb-true}
-use Rattle.std.proofs.lemmas.List.{drop-drop, drop-set-lt, length-set, length-take-le, take_more_set}
+use Rattle.std.proofs.Common.{◌≡◌, ℕ, ◌-◌, ◌<◌, ◌≤◌, List, length, drop, Some, None, rules, sym, refl, ap, ◌∙◌, subst, inr, arith}
+use Rattle.std.proofs.lemmas.List.{drop-drop}
 use Rattle.records.specs.declared.record.Line.{Line}
-use Rattle.records.specs.declared.record.Line.TheVariants.{Policy, Bad, Edge, Quota, Mark, Node, Def, Tariff}
 use Rattle.records.specs.Faults.{Refusal, at_place}
-use Rattle.records.specs.Rules.{added}
-use Rattle.texts.proofs.Broken.{one_breach, room_from}
-use Rattle.texts.specs.Contents.{Contents, SameLists, Within, broken, counted, front, has_room, put, sizes}
+use Rattle.texts.proofs.Broken.{no_breach, one_breach}
+use Rattle.texts.specs.Contents.{Contents, Grown, Overwritten, broken, contents, sizes}
 use Rattle.texts.specs.Lines.{LineAt}
-use Rattle.texts.specs.Readings.{Overwritten, Passed, ReadTo, Refused}
+use Rattle.texts.specs.Readings.{Passed, ReadTo, Refused, no_counts}
 use Rattle.texts.specs.declared.lists.Counts.{Counts}
-use Rattle.texts.specs.declared.lists.Lists.{Lists}
+use Rattle.texts.specs.Stores.{Put, Same, Unchanged, records_of, room_of}
+use Rattle.texts.specs.declared.store.Store.{Store}
 
 over_none : {X : Type 0} (xs : List X) → Overwritten xs xs 0
 over_none xs = record { within = omega arith; long = refl; rest = refl }
 
--- lists that agree from n on agree from one further on
-later : {X : Type 0} (xs ys : List X) (n : ℕ) → drop n xs ≡ drop n ys → drop (n + 1) xs ≡ drop (n + 1) ys
-later xs ys n e = sym (drop-drop 1 n xs) ∙ ap (λ l. drop 1 l) e ∙ drop-drop 1 n ys
-
--- one record more at the front of a list
-module _ {X : Type 0} {before ys : List X} {n : ℕ} (x : X) (over : Overwritten before ys n) (room : ltb (length (take n ys)) (length ys) ≡ true) where
-  free : n < length ys
-  free = omega (arith, ltb-true _ _ room, length-take-le n ys over.within)
-
-  front_more : take (n + 1) (set ys n x) ≡ take n ys ++ x ∷ []
-  front_more = take_more_set ys n x free
-
-  over_more : Overwritten before (set ys n x) (n + 1)
-  over_more =
-      record {
-        within = omega (arith, free, length-set ys n x);
-        long = length-set ys n x ∙ over.long;
-        rest = drop-set-lt (n + 1) ys n x (omega arith) ∙ later ys before n over.rest;
-      }
+-- lists that agree from n on agree from further on
+further : {X : Type 0} (xs ys : List X) (n m : ℕ) → n ≤ m → drop n xs ≡ drop n ys → drop m xs ≡ drop m ys
+further xs ys n m le e = subst (λ k. drop k xs ≡ drop k ys) (omega arith) (sym (drop-drop (m - n) n xs) ∙ ap (λ l. drop (m - n) l) e ∙ drop-drop (m - n) n ys)
 
 -- nothing is read yet
-pub read_none : (text : List ℕ) (ls : Contents) → ReadTo text ls ls 0 (record { policies = 0; bads = 0; edges = 0; quota = None; marks = 0; nodes = 0; defs = 0; tariffs = 0 })
-read_none text ls =
-    record { passed = Passed.begin; policies = over_none ls.policies; bads = over_none ls.bads; edges = over_none ls.edges; marks = over_none ls.marks; nodes = over_none ls.nodes; defs = over_none ls.defs; tariffs = over_none ls.tariffs }
+pub read_none : (text : List ℕ) {ls : Contents} {counts : Counts} → counts ≡ no_counts → ReadTo text ls ls 0 counts
+read_none text {ls} e =
+    subst (ReadTo text ls ls 0) (sym e) (record {
+      passed = Passed.begin;
+      policies = over_none ls.policies;
+      bads = over_none ls.bads;
+      edges = over_none ls.edges;
+      marks = over_none ls.marks;
+      nodes = over_none ls.nodes;
+      defs = over_none ls.defs;
+      tariffs = over_none ls.tariffs;
+    })
 
 -- the lists are as long as they were
 pub same_sizes : {text : List ℕ} {before after : Contents} {at : ℕ} {counts : Counts} → ReadTo text before after at counts → sizes after ≡ sizes before
 same_sizes read = λ i. record { policies = read.policies.long i; bads = read.bads.long i; edges = read.edges.long i; marks = read.marks.long i; nodes = read.nodes.long i; defs = read.defs.long i; tariffs = read.tariffs.long i }
 
-pub within : {text : List ℕ} {before after : Contents} {at : ℕ} {counts : Counts} → ReadTo text before after at counts → Within counts after
-within read = record { policies = read.policies.within; bads = read.bads.within; edges = read.edges.within; marks = read.marks.within; nodes = read.nodes.within; defs = read.defs.within; tariffs = read.tariffs.within }
+-- more records in a list that is written over up to its end
+over_on : {X : Type 0} {before old new : List X} {n m : ℕ} → Overwritten before old n → Grown old new n m → Overwritten before new m
+over_on {X} {before} {old} {new} {n} {m} over grown =
+    record {
+      within = grown.over.within;
+      long = grown.over.long ∙ over.long;
+      rest = grown.over.rest ∙ further old before n m grown.more over.rest;
+    }
 
-module _ {text : List ℕ} {before middle : Contents} {at : ℕ} {counts : Counts} (read : ReadTo text before middle at counts) where
-  -- the front of the lists with one record more
-  front_put : (line : Line) → has_room (sizes middle) (front counts middle) line ≡ true → front (counted counts line) (put counts line middle) ≡ added (front counts middle) line
-  front_put (Policy r) room = λ i. record { policies = front_more r read.policies room i; bads = take counts.bads middle.bads; edges = take counts.edges middle.edges; quota = counts.quota; marks = take counts.marks middle.marks; nodes = take counts.nodes middle.nodes; defs = take counts.defs middle.defs; tariffs = take counts.tariffs middle.tariffs }
-  front_put (Bad r) room = λ i. record { policies = take counts.policies middle.policies; bads = front_more r read.bads room i; edges = take counts.edges middle.edges; quota = counts.quota; marks = take counts.marks middle.marks; nodes = take counts.nodes middle.nodes; defs = take counts.defs middle.defs; tariffs = take counts.tariffs middle.tariffs }
-  front_put (Edge r) room = λ i. record { policies = take counts.policies middle.policies; bads = take counts.bads middle.bads; edges = front_more r read.edges room i; quota = counts.quota; marks = take counts.marks middle.marks; nodes = take counts.nodes middle.nodes; defs = take counts.defs middle.defs; tariffs = take counts.tariffs middle.tariffs }
-  front_put (Quota k) room = refl
-  front_put (Mark r) room = λ i. record { policies = take counts.policies middle.policies; bads = take counts.bads middle.bads; edges = take counts.edges middle.edges; quota = counts.quota; marks = front_more r read.marks room i; nodes = take counts.nodes middle.nodes; defs = take counts.defs middle.defs; tariffs = take counts.tariffs middle.tariffs }
-  front_put (Node r) room = λ i. record { policies = take counts.policies middle.policies; bads = take counts.bads middle.bads; edges = take counts.edges middle.edges; quota = counts.quota; marks = take counts.marks middle.marks; nodes = front_more r read.nodes room i; defs = take counts.defs middle.defs; tariffs = take counts.tariffs middle.tariffs }
-  front_put (Def r) room = λ i. record { policies = take counts.policies middle.policies; bads = take counts.bads middle.bads; edges = take counts.edges middle.edges; quota = counts.quota; marks = take counts.marks middle.marks; nodes = take counts.nodes middle.nodes; defs = front_more r read.defs room i; tariffs = take counts.tariffs middle.tariffs }
-  front_put (Tariff r) room = λ i. record { policies = take counts.policies middle.policies; bads = take counts.bads middle.bads; edges = take counts.edges middle.edges; quota = counts.quota; marks = take counts.marks middle.marks; nodes = take counts.nodes middle.nodes; defs = take counts.defs middle.defs; tariffs = front_more r read.tariffs room i }
+-- the lines up to a place are read
+pub record ReadSoFar (text : List ℕ) (start : Store) (at : ℕ) (store : Store) : Type 0 where
+  pub within : at ≤ length text
+  pub same : Same start store
+  pub read : ReadTo text (contents start.lists.now) (contents store.lists.now) at store.counts
 
-  -- a reading that comes to the end of the next line
-  go_on : (line : Line) {end : ℕ} → has_room (sizes middle) (front counts middle) line ≡ true → Passed (sizes before) text end (front (counted counts line) (put counts line middle)) → ReadTo text before (put counts line middle) end (counted counts line)
-  go_on (Policy r) room passed = record { passed = passed; policies = over_more r read.policies room; bads = read.bads; edges = read.edges; marks = read.marks; nodes = read.nodes; defs = read.defs; tariffs = read.tariffs }
-  go_on (Bad r) room passed = record { passed = passed; policies = read.policies; bads = over_more r read.bads room; edges = read.edges; marks = read.marks; nodes = read.nodes; defs = read.defs; tariffs = read.tariffs }
-  go_on (Edge r) room passed = record { passed = passed; policies = read.policies; bads = read.bads; edges = over_more r read.edges room; marks = read.marks; nodes = read.nodes; defs = read.defs; tariffs = read.tariffs }
-  go_on (Quota k) room passed = record { passed = passed; policies = read.policies; bads = read.bads; edges = read.edges; marks = read.marks; nodes = read.nodes; defs = read.defs; tariffs = read.tariffs }
-  go_on (Mark r) room passed = record { passed = passed; policies = read.policies; bads = read.bads; edges = read.edges; marks = over_more r read.marks room; nodes = read.nodes; defs = read.defs; tariffs = read.tariffs }
-  go_on (Node r) room passed = record { passed = passed; policies = read.policies; bads = read.bads; edges = read.edges; marks = read.marks; nodes = over_more r read.nodes room; defs = read.defs; tariffs = read.tariffs }
-  go_on (Def r) room passed = record { passed = passed; policies = read.policies; bads = read.bads; edges = read.edges; marks = read.marks; nodes = read.nodes; defs = over_more r read.defs room; tariffs = read.tariffs }
-  go_on (Tariff r) room passed = record { passed = passed; policies = read.policies; bads = read.bads; edges = read.edges; marks = read.marks; nodes = read.nodes; defs = read.defs; tariffs = over_more r read.tariffs room }
+pub read_more : {text : List ℕ} {before : Contents} {at : ℕ} {store : Store} {line : Line} {end : ℕ} {next : Store} → ReadTo text before (contents store.lists.now) at store.counts → LineAt text at line end → None ≡ at_place at (broken (room_of store) (records_of store) line) → Put line store next → ReadTo text before (contents next.lists.now) end next.counts
+read_more {text} {before} {at} {store} {line} {end} read found told put =
+    let good = no_breach at _ told in
+    let more = Passed.next read.passed found (subst (λ s. broken s (records_of store) line ≡ None) (same_sizes read) good) in
+    record {
+      passed = subst (Passed (sizes before) text end) (sym put.records) more;
+      policies = over_on read.policies put.policies;
+      bads = over_on read.bads put.bads;
+      edges = over_on read.edges put.edges;
+      marks = over_on read.marks put.marks;
+      nodes = over_on read.nodes put.nodes;
+      defs = over_on read.defs put.defs;
+      tariffs = over_on read.tariffs put.tariffs;
+    }
 
-  pub read_more : {line : Line} {end : ℕ} → LineAt text at line end → broken (sizes middle) (front counts middle) line ≡ None → ReadTo text before (put counts line middle) end (counted counts line)
-  read_more {line} {end} found good =
-      let room = room_from (sizes middle) (front counts middle) line good in
-      let more = Passed.next read.passed found (subst (λ s. broken s (front counts middle) line ≡ None) (same_sizes read) good) in
-      go_on line room (subst (Passed (sizes before) text end) (sym (front_put line room)) more)
+-- the next line breaks a rule
+pub refused_rule : {text : List ℕ} {before : Contents} {at : ℕ} {store : Store} {line : Line} {end : ℕ} {next : Store} {x : Refusal} → ReadTo text before (contents store.lists.now) at store.counts → at < length text → LineAt text at line end → Some x ≡ at_place at (broken (room_of store) (records_of store) line) → Unchanged store next → Refused text before (contents next.lists.now) x
+refused_rule {text} {before} {at} {store} {line} {end} {next} {x} read more found told kept =
+    let rule = one_breach at (broken (room_of store) (records_of store) line) x told in
+    subst (λ ls. Refused text before ls x) (sym kept.contents) (record {
+      place = at;
+      counts = store.counts;
+      read = read;
+      more = more;
+      breaks = inr (record {
+        line = line;
+        end = end;
+        found = found;
+        number = rule.0;
+        rule = subst (λ s. broken s (records_of store) line ≡ Some rule.0) (same_sizes read) rule.1;
+        is = rule.2;
+      });
+    })
 
-  -- the next line breaks a rule
-  pub refused_rule : {line : Line} {end : ℕ} {x : Refusal} → at < length text → LineAt text at line end → Some x ≡ at_place at (broken (sizes middle) (front counts middle) line) → Refused text before middle x
-  refused_rule {line} {end} {x} more found told =
-      let rule = one_breach at (broken (sizes middle) (front counts middle) line) x told in
-      record {
-        place = at;
-        counts = counts;
-        read = read;
-        more = more;
-        breaks = inr (record {
-          line = line;
-          end = end;
-          found = found;
-          number = rule.0;
-          rule = subst (λ s. broken s (front counts middle) line ≡ Some rule.0) (same_sizes read) rule.1;
-          is = rule.2;
-        });
-      }
-
--- the same slices all the way
-pub same_on : {xs ys zs : Lists} → SameLists xs ys → SameLists ys zs → SameLists xs zs
-same_on e f = record { policies = e.policies ∙ f.policies; bads = e.bads ∙ f.bads; edges = e.edges ∙ f.edges; marks = e.marks ∙ f.marks; nodes = e.nodes ∙ f.nodes; defs = e.defs ∙ f.defs; tariffs = e.tariffs ∙ f.tariffs }
-
-pub same_none : (xs : Lists) → SameLists xs xs
-same_none xs = record { policies = refl; bads = refl; edges = refl; marks = refl; nodes = refl; defs = refl; tariffs = refl }
+-- the same lists all the way
+pub same_on : {xs ys zs : Store} → Same xs ys → Same ys zs → Same xs zs
+same_on e f = search rules

@@ -1,5 +1,5 @@
 -- What the lists of a reading hold. Assumes nothing.
-use Rattle.std.specs.Prelude.{◌≡◌, ℕ, ◌+◌, ◌≤◌, Bool, true, cond, List, length, take, Some, None, Option, nat_lt, slice_set}
+use Rattle.std.specs.Prelude.{◌≡◌, ℕ, ◌<◌, ◌≤◌, Bool, true, cond, List, [], ◌∷◌, ◌++◌, length, take, drop, Some, None, Option, nat_lt}
 use Rattle.records.specs.declared.record.PolicyRecord.{PolicyRecord}
 use Rattle.records.specs.declared.record.BadRecord.{BadRecord}
 use Rattle.records.specs.declared.record.EdgeRecord.{EdgeRecord}
@@ -78,24 +78,25 @@ has_room room rs (Tariff r) = nat_lt (length rs.tariffs) room.tariffs
 unfoldable pub broken : Room → Records → Line → Option ℕ
 broken room rs line = elim (breach rs line) [ None ↦ cond (has_room room rs line) None (Some 7) | Some n ↦ Some n ]
 
--- the lists with the record of a line behind the front of its list
-abbrev pub put : Counts → Line → Contents → Contents
-put counts (Policy r) ls = record { policies = slice_set ls.policies counts.policies r; bads = ls.bads; edges = ls.edges; marks = ls.marks; nodes = ls.nodes; defs = ls.defs; tariffs = ls.tariffs }
-put counts (Bad r) ls = record { policies = ls.policies; bads = slice_set ls.bads counts.bads r; edges = ls.edges; marks = ls.marks; nodes = ls.nodes; defs = ls.defs; tariffs = ls.tariffs }
-put counts (Edge r) ls = record { policies = ls.policies; bads = ls.bads; edges = slice_set ls.edges counts.edges r; marks = ls.marks; nodes = ls.nodes; defs = ls.defs; tariffs = ls.tariffs }
-put counts (Quota k) ls = ls
-put counts (Mark r) ls = record { policies = ls.policies; bads = ls.bads; edges = ls.edges; marks = slice_set ls.marks counts.marks r; nodes = ls.nodes; defs = ls.defs; tariffs = ls.tariffs }
-put counts (Node r) ls = record { policies = ls.policies; bads = ls.bads; edges = ls.edges; marks = ls.marks; nodes = slice_set ls.nodes counts.nodes r; defs = ls.defs; tariffs = ls.tariffs }
-put counts (Def r) ls = record { policies = ls.policies; bads = ls.bads; edges = ls.edges; marks = ls.marks; nodes = ls.nodes; defs = slice_set ls.defs counts.defs r; tariffs = ls.tariffs }
-put counts (Tariff r) ls = record { policies = ls.policies; bads = ls.bads; edges = ls.edges; marks = ls.marks; nodes = ls.nodes; defs = ls.defs; tariffs = slice_set ls.tariffs counts.tariffs r }
+-- the first n of a list are written over, and the rest is as it was
+pub record Overwritten {X : Type 0} (before after : List X) (n : ℕ) : Type 0 where
+  pub within : n ≤ length after
+  pub long : length after ≡ length before
+  pub rest : drop n after ≡ drop n before
 
--- the counts with one record more
-abbrev pub counted : Counts → Line → Counts
-counted n (Policy r) = record { policies = n.policies + 1; bads = n.bads; edges = n.edges; quota = n.quota; marks = n.marks; nodes = n.nodes; defs = n.defs; tariffs = n.tariffs }
-counted n (Bad r) = record { policies = n.policies; bads = n.bads + 1; edges = n.edges; quota = n.quota; marks = n.marks; nodes = n.nodes; defs = n.defs; tariffs = n.tariffs }
-counted n (Edge r) = record { policies = n.policies; bads = n.bads; edges = n.edges + 1; quota = n.quota; marks = n.marks; nodes = n.nodes; defs = n.defs; tariffs = n.tariffs }
-counted n (Quota k) = record { policies = n.policies; bads = n.bads; edges = n.edges; quota = Some k; marks = n.marks; nodes = n.nodes; defs = n.defs; tariffs = n.tariffs }
-counted n (Mark r) = record { policies = n.policies; bads = n.bads; edges = n.edges; quota = n.quota; marks = n.marks + 1; nodes = n.nodes; defs = n.defs; tariffs = n.tariffs }
-counted n (Node r) = record { policies = n.policies; bads = n.bads; edges = n.edges; quota = n.quota; marks = n.marks; nodes = n.nodes + 1; defs = n.defs; tariffs = n.tariffs }
-counted n (Def r) = record { policies = n.policies; bads = n.bads; edges = n.edges; quota = n.quota; marks = n.marks; nodes = n.nodes; defs = n.defs + 1; tariffs = n.tariffs }
-counted n (Tariff r) = record { policies = n.policies; bads = n.bads; edges = n.edges; quota = n.quota; marks = n.marks; nodes = n.nodes; defs = n.defs; tariffs = n.tariffs + 1 }
+-- what is used of a list is more than before, and the rest is as it was
+pub record Grown {X : Type 0} (old new : List X) (n m : ℕ) : Type 0 where
+  pub more : n ≤ m
+  pub over : Overwritten old new m
+
+-- there was a free place behind the first n, and the record stands there
+pub record Pushed {X : Type 0} (x : X) (old new : List X) (n m : ℕ) : Type 0 where
+  pub room : n < length old
+  pub front : take m new ≡ take n old ++ x ∷ []
+  pub grown : Grown old new n m
+
+-- there is no free place behind the first n, and nothing is changed
+pub record Full {X : Type 0} (old new : List X) (n m : ℕ) : Type 0 where
+  pub room : length old ≤ n
+  pub list : new ≡ old
+  pub used : m ≡ n

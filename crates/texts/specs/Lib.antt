@@ -3,5 +3,6 @@ pub mod Fields
 pub mod Lines
 pub mod Contents
 pub mod Readings
+pub mod Stores
 pub mod Reports
 pub mod Whole

@@ -1,5 +1,5 @@
 -- What a text says, and where it is refused. Assumes nothing.
-use Rattle.std.specs.Prelude.{◌≡◌, ℕ, ◌<◌, ◌≤◌, ◌⊎◌, List, [], length, drop, Some, None, Ok, Err, Result}
+use Rattle.std.specs.Prelude.{◌≡◌, ℕ, ◌<◌, ◌≤◌, ◌⊎◌, List, [], length, Some, None, Ok, Err, Result}
 use Rattle.records.specs.declared.fault.Fault.{Fault}
 use Rattle.records.specs.declared.fault.Layer.TheVariants.{Line as InLine, Table}
 use Rattle.records.specs.declared.record.Line.{Line}
@@ -7,12 +7,15 @@ use Rattle.records.specs.declared.record.Line.TheVariants.{Node}
 use Rattle.records.specs.declared.record.NodeRecord.{NodeRecord}
 use Rattle.records.specs.Faults.{Refusal, refusal, told}
 use Rattle.records.specs.Rules.{AllCalled, FirstUncalled, Records, added}
-use Rattle.texts.specs.Contents.{Contents, Room, broken, front, sizes}
+use Rattle.texts.specs.Contents.{Contents, Overwritten, Room, broken, front, sizes}
 use Rattle.texts.specs.Lines.{LineAt, NoLine}
 use Rattle.texts.specs.declared.lists.Counts.{Counts}
 
 abbrev pub no_records : Records
 no_records = record { policies = []; bads = []; edges = []; quota = None; marks = []; nodes = []; defs = []; tariffs = [] }
+
+abbrev pub no_counts : Counts
+no_counts = record { policies = 0; bads = 0; edges = 0; quota = None; marks = 0; nodes = 0; defs = 0; tariffs = 0 }
 
 -- the text up to a place is the lines of these records, one after another, and each line keeps the rules after those before it
 pub data Passed (room : Room) (text : List ℕ) : ℕ → Records → Type 0 where
@@ -31,12 +34,6 @@ pub record Offence (room : Room) (text : List ℕ) (at : ℕ) (rs : Records) (x 
 -- the line at a place is that of no record, or it breaks this rule and none that is tested before
 abbrev pub Breaks : Room → List ℕ → ℕ → Records → Refusal → Type 0
 Breaks room text at rs x = ((x ≡ refusal 1 InLine at) × NoLine text at) ⊎ Offence room text at rs x
-
--- the first n of a list are written over, and the rest is as it was
-pub record Overwritten {X : Type 0} (before after : List X) (n : ℕ) : Type 0 where
-  pub within : n ≤ length after
-  pub long : length after ≡ length before
-  pub rest : drop n after ≡ drop n before
 
 -- the records of the lines up to a place stand at the front of the lists, and the rest is as it was
 pub record ReadTo (text : List ℕ) (before after : Contents) (at : ℕ) (counts : Counts) : Type 0 where
@@ -57,11 +54,6 @@ pub record Refused (text : List ℕ) (before after : Contents) (x : Refusal) : T
   pub more : place < length text
   pub breaks : Breaks (sizes before) text place (front counts after) x
 
--- what reading the lines answers, and what the lists then hold
-abbrev pub LinesRead : List ℕ → Contents → Contents → Result Counts Fault → Type 0
-LinesRead text before after (Ok counts) = ReadTo text before after (length text) counts
-LinesRead text before after (Err fault) = Refused text before after (told fault)
-
 -- the lines up to a place are good, and the line of node n stands there
 pub record NodeAt (room : Room) (text : List ℕ) (n place : ℕ) : Type 0 where
   pub before : Records
@@ -71,13 +63,17 @@ pub record NodeAt (room : Room) (text : List ℕ) (n place : ℕ) : Type 0 where
   pub end : ℕ
   pub found : LineAt text place (Node node) end
 
+-- each call among these records has its definition
+abbrev pub AllThere : Records → Type 0
+AllThere rs = AllCalled rs.nodes (length rs.defs) (length rs.nodes)
+
 -- some node calls a definition that is not there; the lowest has its line at the place told, if the text is read to its end
-pub record UndefinedCall (text : List ℕ) (nodes : List NodeRecord) (defs : ℕ) (x : Refusal) : Type 0 where
+pub record UndefinedCall (text : List ℕ) (rs : Records) (x : Refusal) : Type 0 where
   pub node : ℕ
-  pub first : FirstUncalled nodes defs node
+  pub first : FirstUncalled rs.nodes (length rs.defs) node
   pub place : ℕ
   pub is : x ≡ refusal 4 Table place
-  pub stands : (room : Room) (rs : Records) → Passed room text (length text) rs → node < length rs.nodes → NodeAt room text node place
+  pub stands : (room : Room) (all : Records) → Passed room text (length text) all → node < length all.nodes → NodeAt room text node place
 
 -- what a reading answers, and what the lists then hold
 pub data Outcome (text : List ℕ) (before after : Contents) : Result Counts Fault → Type 0 where

@@ -16,7 +16,7 @@ pub struct Lists<'a> {
 }
 
 // How many records each list got, and the quota if there is one.
-#[derive(Clone, Copy)]
+#[derive(Clone, Copy, PartialEq, Eq, Debug, Default)]
 pub struct Counts {
     pub policies: usize,
     pub bads: usize,

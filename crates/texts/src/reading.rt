@@ -2,41 +2,33 @@
 ghost use Rattle.std.specs.Prelude.{◌≡◌, ◌<◌, ◌≤◌, length, MatchResult};
 ghost use Rattle.records.specs.declared.fault.Layer.TheVariants.{Table};
 ghost use Rattle.records.specs.Faults.{refusal, told};
-ghost use Rattle.records.specs.Rules.{AllCalled};
-ghost use Rattle.texts.specs.Contents.{SameLists, Within, contents, front};
-ghost use Rattle.texts.specs.Readings.{LinesRead, OnlyOutcome, Outcome, UndefinedCall};
+ghost use Rattle.records.specs.Rules.{held};
+ghost use Rattle.texts.specs.Contents.{SameLists, contents};
+ghost use Rattle.texts.specs.Readings.{AllThere, OnlyOutcome, Outcome, ReadTo, Refused, UndefinedCall, no_counts};
+ghost use Rattle.texts.specs.Stores.{Same};
 ghost use Rattle.texts.specs.Whole.{Accepts, Refuses};
 
 use crate::calls::node_place;
 use crate::line::line_at;
 use crate::lists::{Counts, Lists};
-use crate::store::{check_line, store};
+use crate::store::Store;
 use records::fault::Fault;
+use records::record::Sofar;
 use records::rules::undefined_call;
 
 // Reads the text's lines in turn, up to its end or to the first line that breaks a rule.
-fn read_lines(text: &[u8], lists: &mut Lists) -> Result<Counts, Fault>
-    ensures same { SameLists lists.new lists.old }
-    ensures reads { LinesRead text.now (contents lists.old) (contents lists.new) result }
+fn read_lines(text: &[u8], store: &mut Store) -> Result<(), Fault>
+    requires { store.old.counts ≡ no_counts }
+    ensures same { Same store.old store.new }
+    ensures reads { MatchResult result (λ _. ReadTo text.now (contents store.old.lists.now) (contents store.new.lists.now) (length text.now) store.new.counts) (λ fault. Refused text.now (contents store.old.lists.now) (contents store.new.lists.now) (told fault)) }
 {
-    let mut counts = Counts {
-        policies: 0,
-        bads: 0,
-        edges: 0,
-        quota: None,
-        marks: 0,
-        nodes: 0,
-        defs: 0,
-        tariffs: 0,
-    };
     let mut at = 0;
     while at < text.len() {
         let (line, end) = line_at(text, at).ok_or(Fault::Form(at))?;
-        check_line(lists, counts, line, at)?;
-        counts = store(lists, counts, line);
+        store.add(line, at)?;
         at = end;
     }
-    Ok(counts)
+    Ok(())
 }
 
 // Refuses a text that is too long.
@@ -50,12 +42,10 @@ fn check_length(text: &[u8]) -> Result<(), Fault>
 }
 
 // Refuses a text whose nodes call a definition that is not there, at the line of the lowest such node.
-fn check_calls(text: &[u8], lists: &Lists, counts: Counts) -> Result<(), Fault>
-    requires { Within counts (contents lists.now) }
-    ensures { MatchResult result (λ _. AllCalled (front counts (contents lists.now)).nodes counts.defs counts.nodes) (λ fault. UndefinedCall text.now (front counts (contents lists.now)).nodes counts.defs (told fault)) }
+fn check_calls(text: &[u8], sofar: Sofar) -> Result<(), Fault>
+    ensures { MatchResult result (λ _. AllThere (held sofar.entry)) (λ fault. UndefinedCall text.now (held sofar.entry) (told fault)) }
 {
-    let nodes = counts.nodes;
-    match undefined_call(&lists.nodes[0..nodes], counts.defs) {
+    match undefined_call(sofar.nodes, sofar.defs.len()) {
         Some(n) => Err(Fault::Missing(node_place(text, n as u64))),
         None => Ok(()),
     }
@@ -70,7 +60,11 @@ pub fn read(text: &[u8], lists: &mut Lists) -> Result<Counts, Fault>
     ensures refuses { Refuses text.now (contents lists.old) result }
 {
     check_length(text)?;
-    let counts = read_lines(text, lists)?;
-    check_calls(text, lists, counts)?;
-    Ok(counts)
+    let mut store = Store {
+        lists,
+        counts: Counts::default(),
+    };
+    read_lines(text, &mut store)?;
+    check_calls(text, store.sofar())?;
+    Ok(store.counts)
 }

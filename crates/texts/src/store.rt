@@ -1,114 +1,85 @@
 // Where the records of a text go.
-ghost use Rattle.std.specs.Prelude.{◌≡◌, true};
-ghost use Rattle.records.specs.Faults.{answer, at_place};
-ghost use Rattle.records.specs.Rules.{held};
-ghost use Rattle.texts.specs.Contents.{SameLists, Within, broken, contents, counted, front, has_room, put, sizes};
+ghost use Rattle.std.specs.Prelude.{MatchOption};
+ghost use Rattle.texts.specs.Contents.{Full, Pushed, Within, contents};
 
 use crate::lists::{Counts, Lists};
 use records::fault::Fault;
 use records::record::{Line, Sofar};
 use records::rules::check;
 
-// The records at the front of the lists.
-fn sofar<'a>(lists: &'a Lists, counts: Counts) -> Sofar<'a>
-    requires { Within counts (contents lists.now) }
-    ensures { held result ≡ front counts (contents lists.now) }
+// Puts a record behind the first `used` of a list, if there is a free place.
+fn push<T: Copy>(list: &mut [T], used: &mut usize, item: T) -> Option<()>
+    ensures { MatchOption result (Full list.old list.new used.old used.new) (λ _. Pushed item list.old list.new used.old used.new) }
 {
-    let Counts {
-        policies,
-        bads,
-        edges,
-        quota,
-        marks,
-        nodes,
-        defs,
-        tariffs,
-    } = counts;
-    Sofar {
-        policies: &lists.policies[0..policies],
-        bads: &lists.bads[0..bads],
-        edges: &lists.edges[0..edges],
-        quota,
-        marks: &lists.marks[0..marks],
-        nodes: &lists.nodes[0..nodes],
-        defs: &lists.defs[0..defs],
-        tariffs: &lists.tariffs[0..tariffs],
+    if *used >= list.len() {
+        return None;
     }
+    list[*used] = item;
+    *used += 1;
+    Some(())
 }
 
-// Whether the list of this line's kind has a free place.
-fn has_place(lists: &Lists, counts: Counts, line: Line) -> bool
-    requires { Within counts (contents lists.now) }
-    ensures { result ≡ has_room (sizes (contents lists.now)) (front counts (contents lists.now)) line }
-{
-    match line {
-        Line::Policy(_) => counts.policies < lists.policies.len(),
-        Line::Bad(_) => counts.bads < lists.bads.len(),
-        Line::Edge(_) => counts.edges < lists.edges.len(),
-        Line::Quota(_) => true,
-        Line::Mark(_) => counts.marks < lists.marks.len(),
-        Line::Node(_) => counts.nodes < lists.nodes.len(),
-        Line::Def(_) => counts.defs < lists.defs.len(),
-        Line::Tariff(_) => counts.tariffs < lists.tariffs.len(),
-    }
+// The lists with the records so far at their fronts, and how many there are.
+#[derive(Drop)]
+pub(crate) struct Store<'a, 'b> {
+    pub(crate) lists: &'a mut Lists<'b>,
+    pub(crate) counts: Counts,
+    ghost within: { Within counts (contents lists.now) },
 }
 
-// Refuses a line that breaks a rule after the records at the front of the lists, with the first such rule.
-pub(crate) fn check_line(
-    lists: &Lists,
-    counts: Counts,
-    line: Line,
-    place: usize,
-) -> Result<(), Fault>
-    requires { Within counts (contents lists.now) }
-    ensures { answer result ≡ at_place place (broken (sizes (contents lists.now)) (front counts (contents lists.now)) line) }
-{
-    check(sofar(lists, counts), line, place)?;
-    if !has_place(lists, counts, line) {
-        return Err(Fault::NoRoom(place));
-    }
-    Ok(())
-}
+impl Store<'_, '_> {
+    ghost use Rattle.std.specs.Prelude.{◌≡◌, MatchResult};
+    ghost use Rattle.records.specs.Faults.{answer, at_place};
+    ghost use Rattle.records.specs.Rules.{held};
+    ghost use Rattle.texts.specs.Contents.{broken};
+    ghost use Rattle.texts.specs.Stores.{NoPlace, Put, Unchanged, records_of, room_of};
 
-// Puts the record of the line behind those at the front of its list.
-pub(crate) fn store(lists: &mut Lists, counts: Counts, line: Line) -> Counts
-    requires within { Within counts (contents lists.old) }
-    requires room { has_room (sizes (contents lists.old)) (front counts (contents lists.old)) line ≡ true }
-    ensures same { SameLists lists.new lists.old }
-    ensures lists { contents lists.new ≡ put counts line (contents lists.old) }
-    ensures counts { result ≡ counted counts line }
-{
-    let mut next = counts;
-    match line {
-        Line::Policy(r) => {
-            lists.policies[counts.policies] = r;
-            next.policies += 1;
-        }
-        Line::Bad(r) => {
-            lists.bads[counts.bads] = r;
-            next.bads += 1;
-        }
-        Line::Edge(r) => {
-            lists.edges[counts.edges] = r;
-            next.edges += 1;
-        }
-        Line::Quota(k) => next.quota = Some(k),
-        Line::Mark(r) => {
-            lists.marks[counts.marks] = r;
-            next.marks += 1;
-        }
-        Line::Node(r) => {
-            lists.nodes[counts.nodes] = r;
-            next.nodes += 1;
-        }
-        Line::Def(r) => {
-            lists.defs[counts.defs] = r;
-            next.defs += 1;
-        }
-        Line::Tariff(r) => {
-            lists.tariffs[counts.tariffs] = r;
-            next.tariffs += 1;
+    // The records so far.
+    pub(crate) fn sofar(&self) -> Sofar<'_>
+        ensures { held result ≡ records_of self.now }
+    {
+        let lists: &Lists = self.lists;
+        let counts = self.counts;
+        Sofar {
+            policies: &lists.policies[..counts.policies],
+            bads: &lists.bads[..counts.bads],
+            edges: &lists.edges[..counts.edges],
+            quota: counts.quota,
+            marks: &lists.marks[..counts.marks],
+            nodes: &lists.nodes[..counts.nodes],
+            defs: &lists.defs[..counts.defs],
+            tariffs: &lists.tariffs[..counts.tariffs],
         }
     }
-    next
+
+    // Puts the record of a line behind the others of its kind, if its list has a free place.
+    fn put(&mut self, line: Line) -> Option<()>
+        ensures { MatchOption result (NoPlace line self.old self.new) (λ _. Put line self.old self.new) }
+    {
+        let lists = &mut *self.lists;
+        let counts = &mut self.counts;
+        match line {
+            Line::Policy(r) => push(lists.policies, &mut counts.policies, r),
+            Line::Bad(r) => push(lists.bads, &mut counts.bads, r),
+            Line::Edge(r) => push(lists.edges, &mut counts.edges, r),
+            Line::Quota(k) => {
+                counts.quota = Some(k);
+                Some(())
+            }
+            Line::Mark(r) => push(lists.marks, &mut counts.marks, r),
+            Line::Node(r) => push(lists.nodes, &mut counts.nodes, r),
+            Line::Def(r) => push(lists.defs, &mut counts.defs, r),
+            Line::Tariff(r) => push(lists.tariffs, &mut counts.tariffs, r),
+        }
+    }
+
+    // Puts a line's record behind those so far, or refuses it with the first rule that it breaks.
+    #[tactic(auto, unfolding(crate::specs::Contents::broken))]
+    pub(crate) fn add(&mut self, line: Line, place: usize) -> Result<(), Fault>
+        ensures answer { answer result ≡ at_place place (broken (room_of self.old) (records_of self.old) line) }
+        ensures put { MatchResult result (λ _. Put line self.old self.new) (λ _. Unchanged self.old self.new) }
+    {
+        check(self.sofar(), line, place)?;
+        self.put(line).ok_or(Fault::NoRoom(place))
+    }
 }
