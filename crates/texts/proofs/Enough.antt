@@ -133,11 +133,13 @@ never_short {text} {after} fault o seven = by o refl
         apart 4 7 (told fault) Table place (subst (λ f. told f ≡ refusal 4 Table place) same is) seven (λ h. omega arith)
     by (Outcome.accepted {counts = counts} _ _ _) e = let z : ◌≡◌ {A = ℕ} 0 1 = cc in omega arith
 
-pub tallied : {text : List ℕ} {r : Result Counts Fault} (after : Contents) → Outcome text blank after r → OnlyOutcome text blank after r → Tallied text r
-tallied {text} {r} after outcome only =
+pub tallied : {text : List ℕ} {r : Result Counts Fault} {before : Contents} (after : Contents) → before ≡ blank → Outcome text before after r → OnlyOutcome text before after r → Tallied text r
+tallied {text} {r} {before} after is outcome only =
+    let read : Outcome text blank after r = subst (λ ls. Outcome text ls after r) is outcome in
+    let one : OnlyOutcome text blank after r = subst (λ ls. OnlyOutcome text ls after r) is only in
     record {
       lists = after;
-      outcome = outcome;
-      only = λ other answer o. (only other answer o).0;
-      never_short = λ fault e. never_short fault (subst (Outcome text blank after) e outcome);
+      outcome = read;
+      only = λ other answer o. (one other answer o).0;
+      never_short = λ fault e. never_short fault (subst (Outcome text blank after) e read);
     }

@@ -1,5 +1,5 @@
 -- Numbers as they are written. Assumes nothing.
-use Rattle.std.proofs.Common.{◌≡◌, ℕ, ◌^◌, ◌<◌, List, [], ◌∷◌, ◌++◌, get_or, drop, decimal, sym, refl, ap, ◌∙◌, subst, arith}
+use Rattle.std.proofs.Common.{◌≡◌, ℕ, List, [], ◌∷◌, ◌++◌, get_or, drop, decimal, sym, refl, ap, ◌∙◌, subst, arith}
 use Rattle.std.specs.Str.Parse.{digits_value, AllDigits}
 use Rattle.std.specs.Int.{IsInRange}
 use Rattle.std.proofs.lemmas.Fmt.{digits_decimal, digits_value-decimal}
@@ -30,7 +30,3 @@ same_number m n r s sm sn pr ps e =
     let parts = same_run (written m) (written n) r s (written_digits m sm) (written_digits n sn) pr ps e in
     let same : decimal m ≡ decimal n = sym (written_is m (omega arith)) ∙ parts.0 ∙ written_is n (omega arith) in
     (sym (digits_value-decimal own m (omega arith)) ∙ ap (digits_value 10) same ∙ digits_value-decimal own n (omega arith), parts.1)
-
--- a number as the standard library prints it
-pub shown : (n : ℕ) → n < 2 ^ 64 → decimal n ≡ written n
-shown n wide = sym (written_is n wide)

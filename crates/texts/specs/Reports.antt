@@ -12,17 +12,10 @@ abbrev pub quota_text : Option ℕ → List ℕ
 quota_text None = codes "none"
 quota_text (Some k) = written k
 
-abbrev pub front_text : Counts → List ℕ
-front_text n =
-    codes "policies=" ++ (written n.policies ++ (codes " bads=" ++ (written n.bads ++ (codes " edges=" ++ (written n.edges ++ (codes " quota=" ++ quota_text n.quota))))))
-
-abbrev pub back_text : Counts → List ℕ
-back_text n =
-    codes "marks=" ++ (written n.marks ++ (codes " nodes=" ++ (written n.nodes ++ (codes " defs=" ++ (written n.defs ++ (codes " tariffs=" ++ written n.tariffs))))))
-
 -- the counts of an accepted text as they are printed
 abbrev pub counts_text : Counts → List ℕ
-counts_text n = codes "accepted " ++ (front_text n ++ (codes " " ++ back_text n))
+counts_text n =
+    codes "accepted policies=" ++ (written n.policies ++ (codes " bads=" ++ (written n.bads ++ (codes " edges=" ++ (written n.edges ++ (codes " quota=" ++ (quota_text n.quota ++ (codes " marks=" ++ (written n.marks ++ (codes " nodes=" ++ (written n.nodes ++ (codes " defs=" ++ (written n.defs ++ (codes " tariffs=" ++ written n.tariffs))))))))))))))
 
 -- the one line that a text gets
 abbrev pub answer_text : Result Counts Fault → List ℕ
