@@ -21,16 +21,7 @@ further xs ys n m le e = subst (λ k. drop k xs ≡ drop k ys) (omega arith) (sy
 -- nothing is read yet
 pub read_none : (text : List ℕ) {ls : Contents} {counts : Counts} → counts ≡ no_counts → ReadTo text ls ls 0 counts
 read_none text {ls} e =
-    subst (ReadTo text ls ls 0) (sym e) (record {
-      passed = Passed.begin;
-      policies = over_none ls.policies;
-      bads = over_none ls.bads;
-      edges = over_none ls.edges;
-      marks = over_none ls.marks;
-      nodes = over_none ls.nodes;
-      defs = over_none ls.defs;
-      tariffs = over_none ls.tariffs;
-    })
+    subst (ReadTo text ls ls 0) (sym e) (search (rules, over_none, Passed.begin))
 
 -- the lists are as long as they were
 pub same_sizes : {text : List ℕ} {before after : Contents} {at : ℕ} {counts : Counts} → ReadTo text before after at counts → sizes after ≡ sizes before
