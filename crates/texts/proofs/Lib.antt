@@ -4,6 +4,7 @@ pub mod Runs
 pub mod Fields
 pub mod Lines
 pub mod Broken
+pub mod Walks
 pub mod Turns
 pub mod Apart
 pub mod Outcomes

@@ -1,5 +1,5 @@
 -- The line of a node is found again. Assumes nothing.
-use Rattle.std.proofs.Common.{◌≡◌, ℕ, ◌<◌, ◌≤◌, true, false, List, length, None, refl, ap, subst, ⊎_elim, arith, eqb-true}
+use Rattle.std.proofs.Common.{◌≡◌, ℕ, ◌<◌, ◌≤◌, true, false, List, length, Some, None, Option, sym, refl, ap, ◌∙◌, subst, ⊎_elim, arith, eqb-true}
 use borrow.Author.Tests.{clash, eqb-false}
 use Rattle.std.proofs.lemmas.List.{length_push}
 use Rattle.std.proofs.lemmas.Bool.{and_parts}
@@ -14,7 +14,10 @@ use Rattle.texts.proofs.Lines.{line_advances}
 use Rattle.texts.proofs.Outcomes.{Onward, linear}
 use Rattle.texts.specs.Contents.{Room, broken}
 use Rattle.texts.specs.Lines.{LineAt, NoLine, is_node}
-use Rattle.texts.specs.Readings.{NodeAt, Passed}
+use Rattle.texts.specs.Readings.{NodeAt, Passed, no_records}
+use Rattle.texts.specs.Walks.{GivesLine, is_line_of}
+use Rattle.texts.specs.declared.walk.Lines.{Lines}
+use Rattle.texts.proofs.Walks.{found_at}
 
 -- no line begins at the end of the text
 over : {text : List ℕ} {stop : ℕ} {line : Line} {end : ℕ} → stop ≡ length text → LineAt text stop line end → ⊥
@@ -44,6 +47,9 @@ module _ {room : Room} {text : List ℕ} where
   -- and where no line follows, that was all
   pub that_is_all : {at : ℕ} {rs all : Records} → Passed room text at rs → Passed room text (length text) all → NoLine text at → rs ≡ all
   that_is_all p q none = ⊎_elim (λ on. ahead_end on none) (λ on. back_end on refl) (linear room text p q)
+
+  at_end : {at : ℕ} {rs all : Records} → Passed room text at rs → Passed room text (length text) all → at ≡ length text → rs ≡ all
+  at_end p q e = ⊎_elim (λ on. sym (back_end on e)) (λ on. back_end on refl) (linear room text p q)
 
 -- a good line of a node has the number of nodes before it
 pub node_counts : (room : Room) (rs : Records) (r : NodeRecord) → broken room rs (Node r) ≡ None → r.node ≡ length rs.nodes
@@ -85,22 +91,47 @@ pub record Sofar (room : Room) (text : List ℕ) (n at : ℕ) : Type 0 where
 abbrev pub Search : List ℕ → ℕ → ℕ → Type 0
 Search text n at = (room : Room) (all : Records) → Passed room text (length text) all → n < length all.nodes → Sofar room text n at
 
-pub search-none : (text : List ℕ) (n : ℕ) → Search text n 0
-search-none text n room all whole lt = record { before = _; passed = Passed.begin; few = omega arith }
+-- the walk comes to the next line with at most n nodes
+pub record Searched (text : List ℕ) (n : ℕ) (lines : Lines) : Type 0 where
+  pub of : lines.text.now ≡ text
+  pub search : Search text n lines.at
 
-pub search-more : (text : List ℕ) (n at : ℕ) (line : Line) (end : ℕ) → Search text n at → LineAt text at line end → is_node n line ≡ false → Search text n end
-search-more text n at line end sofar found other room all whole lt =
-    let old = sofar room all whole lt in
-    let good = goes_on old.passed whole found in
-    record { before = _; passed = Passed.next old.passed found good; few = still_few room old.before n line good other old.few }
+pub searched_none : {text : List ℕ} {n : ℕ} {lines : Lines} → lines.text.now ≡ text → lines.at ≡ 0 → Searched text n lines
+searched_none {text} is begin =
+    record { of = is; search = λ room all whole lt. record { before = _; passed = subst (λ at. Passed room text at no_records) (sym begin) Passed.begin; few = omega arith } }
 
-pub search-found : (text : List ℕ) (n at : ℕ) (line : Line) (end : ℕ) → Search text n at → LineAt text at line end → is_node n line ≡ true → (room : Room) (all : Records) → Passed room text (length text) all → n < length all.nodes → NodeAt room text n at
-search-found text n at line end sofar found is room all whole lt =
-    let old = sofar room all whole lt in
-    let node = the_node n line is in
-    record { before = old.before; passed = old.passed; node = node.0; number = node.2; end = end; found = subst (λ l. LineAt text at l end) node.1 found }
+-- where no line stands, the text is not read whole
+not_whole : {text : List ℕ} {n at : ℕ} → Search text n at → NoLine text at → (room : Room) (all : Records) → Passed room text (length text) all → n < length all.nodes → ⊥
+not_whole search none room all whole lt =
+    let old = search room all whole lt in
+    omega (arith, old.few, ap (λ (rs : Records). length rs.nodes) (that_is_all old.passed whole none))
 
-pub search-all : (text : List ℕ) (n at : ℕ) → Search text n at → NoLine text at → (room : Room) (all : Records) → Passed room text (length text) all → n < length all.nodes → NodeAt room text n at
-search-all text n at sofar none room all whole lt =
-    let old = sofar room all whole lt in
-    absurd (omega (arith, old.few, lt, ap (λ (rs : Records). length rs.nodes) (that_is_all old.passed whole none)))
+-- all lines are passed, so the text has at most n nodes
+pub searched_all : {text : List ℕ} {n : ℕ} {lines : Lines} → Searched text n lines → lines.at ≡ length lines.text.now → (room : Room) (all : Records) → Passed room text (length text) all → n < length all.nodes → ⊥
+searched_all searched end room all whole lt =
+    let old = searched.search room all whole lt in
+    let last = end ∙ ap length searched.of in
+    omega (arith, old.few, ap (λ (rs : Records). length rs.nodes) (at_end old.passed whole last))
+
+module _ {text : List ℕ} {n : ℕ} {lines : Lines} (searched : Searched text n lines) (after : Lines) (at : ℕ) where
+  pub searched_more : (o : Option Line) → GivesLine lines (Some (at, o)) after → is_line_of n o ≡ false → Searched text n after
+  searched_more None given other =
+      let none = subst (λ t. NoLine t lines.at) searched.of (subst (NoLine lines.text.now) given.place given.none) in
+      record { of = given.text ∙ searched.of; search = λ room all whole lt. absurd (not_whole searched.search none room all whole lt) }
+  searched_more (Some line) given other =
+      let found = found_at searched.of given in
+      record {
+        of = given.text ∙ searched.of;
+        search = λ room all whole lt.
+            let old = searched.search room all whole lt in
+            let good = goes_on old.passed whole found in
+            record { before = _; passed = Passed.next old.passed found good; few = still_few room old.before n line good other old.few };
+      }
+
+  pub searched_found : (o : Option Line) → GivesLine lines (Some (at, o)) after → is_line_of n o ≡ true → (room : Room) (all : Records) → Passed room text (length text) all → n < length all.nodes → NodeAt room text n at
+  searched_found None given is room all whole lt = absurd (clash is)
+  searched_found (Some line) given is room all whole lt =
+      let old = searched.search room all whole lt in
+      let node = the_node n line is in
+      let found = subst (λ l. LineAt text lines.at l after.at) node.1 (found_at searched.of given) in
+      subst (NodeAt room text n) (sym given.place) (record { before = old.before; passed = old.passed; node = node.0; number = node.2; end = after.at; found = found })

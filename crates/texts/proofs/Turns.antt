@@ -1,15 +1,18 @@
 -- One line more of a reading. Assumes nothing.
-use Rattle.std.proofs.Common.{◌≡◌, ℕ, ◌-◌, ◌<◌, ◌≤◌, List, length, drop, Some, None, rules, sym, refl, ap, ◌∙◌, subst, inr, arith}
+use Rattle.std.proofs.Common.{◌≡◌, ℕ, ◌-◌, ◌≤◌, List, length, drop, Some, None, Option, rules, sym, refl, ap, ◌∙◌, subst, inr, arith}
 use Rattle.std.proofs.lemmas.List.{drop-drop}
 use Rattle.records.specs.declared.record.Line.{Line}
 use Rattle.records.specs.Faults.{Refusal, at_place}
 use Rattle.texts.proofs.Broken.{no_breach, one_breach}
+use Rattle.texts.proofs.Walks.{found_at}
 use Rattle.texts.specs.Contents.{Contents, Grown, Overwritten, broken, contents, sizes}
 use Rattle.texts.specs.Lines.{LineAt}
 use Rattle.texts.specs.Readings.{Passed, ReadTo, Refused, no_counts}
 use Rattle.texts.specs.declared.lists.Counts.{Counts}
 use Rattle.texts.specs.Stores.{Put, Same, Unchanged, records_of, room_of}
+use Rattle.texts.specs.Walks.{StandsNext}
 use Rattle.texts.specs.declared.store.Store.{Store}
+use Rattle.texts.specs.declared.walk.Lines.{Lines}
 
 over_none : {X : Type 0} (xs : List X) → Overwritten xs xs 0
 over_none xs = record { within = omega arith; long = refl; rest = refl }
@@ -17,11 +20,6 @@ over_none xs = record { within = omega arith; long = refl; rest = refl }
 -- lists that agree from n on agree from further on
 further : {X : Type 0} (xs ys : List X) (n m : ℕ) → n ≤ m → drop n xs ≡ drop n ys → drop m xs ≡ drop m ys
 further xs ys n m le e = subst (λ k. drop k xs ≡ drop k ys) (omega arith) (sym (drop-drop (m - n) n xs) ∙ ap (λ l. drop (m - n) l) e ∙ drop-drop (m - n) n ys)
-
--- nothing is read yet
-pub read_none : (text : List ℕ) {ls : Contents} {counts : Counts} → counts ≡ no_counts → ReadTo text ls ls 0 counts
-read_none text {ls} e =
-    subst (ReadTo text ls ls 0) (sym e) (search (rules, over_none, Passed.begin))
 
 -- the lists are as long as they were
 pub same_sizes : {text : List ℕ} {before after : Contents} {at : ℕ} {counts : Counts} → ReadTo text before after at counts → sizes after ≡ sizes before
@@ -36,46 +34,70 @@ over_on {X} {before} {old} {new} {n} {m} over grown =
       rest = grown.over.rest ∙ further old before n m grown.more over.rest;
     }
 
--- the lines up to a place are read
-pub record ReadSoFar (text : List ℕ) (start : Store) (at : ℕ) (store : Store) : Type 0 where
-  pub within : at ≤ length text
-  pub same : Same start store
-  pub read : ReadTo text (contents start.lists.now) (contents store.lists.now) at store.counts
+-- the same lists all the way
+same_on : {xs ys zs : Store} → Same xs ys → Same ys zs → Same xs zs
+same_on e f = search rules
 
-pub read_more : {text : List ℕ} {before : Contents} {at : ℕ} {store : Store} {line : Line} {end : ℕ} {next : Store} → ReadTo text before (contents store.lists.now) at store.counts → LineAt text at line end → None ≡ at_place at (broken (room_of store) (records_of store) line) → Put line store next → ReadTo text before (contents next.lists.now) end next.counts
-read_more {text} {before} {at} {store} {line} {end} read found told put =
-    let good = no_breach at _ told in
-    let more = Passed.next read.passed found (subst (λ s. broken s (records_of store) line ≡ None) (same_sizes read) good) in
+-- the lines up to the next are read
+pub record ReadSoFar (text : List ℕ) (start : Store) (lines : Lines) (store : Store) : Type 0 where
+  pub of : lines.text.now ≡ text
+  pub same : Same start store
+  pub read : ReadTo text (contents start.lists.now) (contents store.lists.now) lines.at store.counts
+
+-- nothing is read yet
+pub read_none : {text : List ℕ} {lines : Lines} {start : Store} → lines.text.now ≡ text → lines.at ≡ 0 → start.counts ≡ no_counts → ReadSoFar text start lines start
+read_none {text} {lines} {start} is begin none =
+    let ls = contents start.lists.now in
+    let read : ReadTo text ls ls 0 no_counts = search (rules, over_none, Passed.begin) in
     record {
-      passed = subst (Passed (sizes before) text end) (sym put.records) more;
-      policies = over_on read.policies put.policies;
-      bads = over_on read.bads put.bads;
-      edges = over_on read.edges put.edges;
-      marks = over_on read.marks put.marks;
-      nodes = over_on read.nodes put.nodes;
-      defs = over_on read.defs put.defs;
-      tariffs = over_on read.tariffs put.tariffs;
+      of = is;
+      same = search rules;
+      read = subst (λ at. ReadTo text ls ls at start.counts) (sym begin) (subst (ReadTo text ls ls 0) (sym none) read);
     }
 
--- the next line breaks a rule
-pub refused_rule : {text : List ℕ} {before : Contents} {at : ℕ} {store : Store} {line : Line} {end : ℕ} {next : Store} {x : Refusal} → ReadTo text before (contents store.lists.now) at store.counts → at < length text → LineAt text at line end → Some x ≡ at_place at (broken (room_of store) (records_of store) line) → Unchanged store next → Refused text before (contents next.lists.now) x
-refused_rule {text} {before} {at} {store} {line} {end} {next} {x} read more found told kept =
-    let rule = one_breach at (broken (room_of store) (records_of store) line) x told in
-    subst (λ ls. Refused text before ls x) (sym kept.contents) (record {
-      place = at;
-      counts = store.counts;
-      read = read;
-      more = more;
-      breaks = inr (record {
-        line = line;
-        end = end;
-        found = found;
-        number = rule.0;
-        rule = subst (λ s. broken s (records_of store) line ≡ Some rule.0) (same_sizes read) rule.1;
-        is = rule.2;
-      });
-    })
+module _ {text : List ℕ} {start store : Store} {lines after : Lines} {at : ℕ} {line : Line} (sofar : ReadSoFar text start lines store) (next : StandsNext at line lines after) where
+  found : LineAt text lines.at line after.at
+  found = found_at sofar.of next
 
--- the same lists all the way
-pub same_on : {xs ys zs : Store} → Same xs ys → Same ys zs → Same xs zs
-same_on e f = search rules
+  here : {o : Option Refusal} → o ≡ at_place at (broken (room_of store) (records_of store) line) → o ≡ at_place lines.at (broken (room_of store) (records_of store) line)
+  here e = e ∙ ap (λ i. at_place i (broken (room_of store) (records_of store) line)) next.place
+
+  pub read_more : {then : Store} → None ≡ at_place at (broken (room_of store) (records_of store) line) → Put line store then → ReadSoFar text start after then
+  read_more told put =
+      let read = sofar.read in
+      let good = no_breach lines.at _ (here told) in
+      let before = sizes (contents start.lists.now) in
+      let more = Passed.next read.passed found (subst (λ s. broken s (records_of store) line ≡ None) (same_sizes read) good) in
+      record {
+        of = next.text ∙ sofar.of;
+        same = same_on sofar.same put.same;
+        read = record {
+          passed = subst (Passed before text after.at) (sym put.records) more;
+          policies = over_on read.policies put.policies;
+          bads = over_on read.bads put.bads;
+          edges = over_on read.edges put.edges;
+          marks = over_on read.marks put.marks;
+          nodes = over_on read.nodes put.nodes;
+          defs = over_on read.defs put.defs;
+          tariffs = over_on read.tariffs put.tariffs;
+        };
+      }
+
+  -- the next line breaks a rule
+  pub refused_rule : {then : Store} {x : Refusal} → Some x ≡ at_place at (broken (room_of store) (records_of store) line) → Unchanged store then → Refused text (contents start.lists.now) (contents then.lists.now) x
+  refused_rule {x = x} told kept =
+      let rule = one_breach lines.at (broken (room_of store) (records_of store) line) x (here told) in
+      subst (λ ls. Refused text (contents start.lists.now) ls x) (sym kept.contents) (record {
+        place = lines.at;
+        counts = store.counts;
+        read = sofar.read;
+        more = omega (arith, ap length sofar.of);
+        breaks = inr (record {
+          line = line;
+          end = after.at;
+          found = found;
+          number = rule.0;
+          rule = subst (λ s. broken s (records_of store) line ≡ Some rule.0) (same_sizes sofar.read) rule.1;
+          is = rule.2;
+        });
+      })

@@ -9,3 +9,4 @@ mod number;
 pub mod reading;
 pub mod report;
 mod store;
+mod walk;

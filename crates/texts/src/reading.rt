@@ -9,9 +9,9 @@ ghost use Rattle.texts.specs.Stores.{Same};
 ghost use Rattle.texts.specs.Whole.{Accepts, Refuses};
 
 use crate::calls::node_place;
-use crate::line::line_at;
 use crate::lists::{Counts, Lists};
 use crate::store::Store;
+use crate::walk::Lines;
 use records::fault::Fault;
 use records::record::Sofar;
 use records::rules::undefined_call;
@@ -22,11 +22,9 @@ fn read_lines(text: &[u8], store: &mut Store) -> Result<(), Fault>
     ensures same { Same store.old store.new }
     ensures reads { MatchResult result (λ _. ReadTo text.now (contents store.old.lists.now) (contents store.new.lists.now) (length text.now) store.new.counts) (λ fault. Refused text.now (contents store.old.lists.now) (contents store.new.lists.now) (told fault)) }
 {
-    let mut at = 0;
-    while at < text.len() {
-        let (line, end) = line_at(text, at).ok_or(Fault::Form(at))?;
+    for (at, line) in Lines::of(text) {
+        let line = line.ok_or(Fault::Form(at))?;
         store.add(line, at)?;
-        at = end;
     }
     Ok(())
 }
