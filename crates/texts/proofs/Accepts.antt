@@ -2,10 +2,10 @@
 use Rattle.std.proofs.Common.{◌≡◌, ℕ, List, length, take, Some, None, Ok, Err, Result, sym, refl, ap, ◌∙◌, subst, arith}
 use Rattle.std.proofs.lemmas.List.{length-take-le}
 use Rattle.records.proofs.Kept.{some_none}
+use Rattle.std.proofs.lemmas.Bool.{both_ways}
 use Rattle.records.specs.declared.fault.Fault.{Fault}
 use Rattle.records.specs.Faults.{Refusal}
 use Rattle.records.specs.Rules.{AllCalled, FirstUncalled, Records, call_there, node_at}
-use Rattle.texts.proofs.OneWay.{called_not}
 use Rattle.texts.proofs.Outcomes.{one_outcome}
 use Rattle.texts.proofs.Whole.{read_is_written, written_is_read}
 use Rattle.texts.specs.Contents.{Contents, front, sizes}
@@ -34,7 +34,7 @@ module _ {text : List ℕ} {before : Contents} where
       let all = subst Called (sym (same_records written read)) called in
       let long = length-take-le counts.defs after.defs read.defs.within in
       let nodes = take counts.nodes after.nodes in
-      called_not (call_there counts.defs (node_at nodes node)) (ap (λ d. call_there d (node_at nodes node)) (sym long) ∙ all node first.within) first.here
+      both_ways (call_there counts.defs (node_at nodes node)) first.here (ap (λ d. call_there d (node_at nodes node)) (sym long) ∙ all node first.within)
 
   pub accepts : {after : Contents} {r : Result Counts Fault} → Outcome text before after r → Accepts text before after r
   accepts (Outcome.too_long {fault = fault} long kept is) =

@@ -1,9 +1,9 @@
 -- A text has one outcome. Assumes nothing.
-use Rattle.std.proofs.Common.{◌≡◌, ℕ, ◌≤◌, Bool, true, false, List, ◌++◌, length, take, drop, Some, None, Ok, Err, Option, Result, IsErrAnd, sym, refl, ap, ◌∙◌, subst, ⊎_elim, arith}
+use Rattle.std.proofs.Common.{◌≡◌, ℕ, ◌≤◌, List, ◌++◌, length, take, drop, Some, None, Ok, Err, Option, Result, IsErrAnd, sym, refl, ap, ◌∙◌, subst, ⊎_elim, arith}
 use borrow.Author.Tests.{both_ways}
 use Rattle.std.proofs.lemmas.List.{length_push, length-take-le, take-append-drop}
 use Rattle.std.proofs.lemmas.Result.{err_from_is_err_and}
-use Rattle.std.proofs.str.Laws.{order}
+use Rattle.records.proofs.Breaks.{one_call}
 use Rattle.records.proofs.Kept.{some_none}
 use Rattle.records.proofs.Told.{told_apart}
 use Rattle.records.specs.declared.fault.Fault.{Fault}
@@ -85,16 +85,6 @@ module _ {room : Room} {text : List ℕ} where
     same_place x y =
         ⊎_elim (λ on. no_further on x.found (count_at x ∙ sym (count_at y))) (λ on. sym (no_further on y.found (count_at y ∙ sym (count_at x)))) (linear room text x.passed y.passed)
 
--- there is one lowest node that calls a definition which is not there
-pub called_not : (b : Bool) → b ≡ true → b ≡ false → ⊥
-called_not b e f = both_ways b f e
-
-pub same_uncalled : (nodes : List NodeRecord) (defs n m : ℕ) → FirstUncalled nodes defs n → FirstUncalled nodes defs m → n ≡ m
-same_uncalled nodes defs n m x y =
-    ⊎_elim (λ lt. absurd (called_not (call_there defs (node_at nodes n)) (y.below n lt) x.here))
-    (λ le. ⊎_elim (λ lt. absurd (called_not (call_there defs (node_at nodes m)) (x.below m lt) y.here)) (λ ge. omega arith) (order m n))
-    (order n m)
-
 module _ {text : List ℕ} {before : Contents} where
   broken_end : {after : Contents} {x : Refusal} → (r : Refused text before after x) → Ends (sizes before) text r.place (front r.counts after) (Some x)
   broken_end r = (r.more, r.breaks)
@@ -108,7 +98,7 @@ module _ {text : List ℕ} {before : Contents} where
   not_all_called {xs} {ys} {n} {m} {node} p q first all =
       let same = same_end None None p q refl refl in
       let moved : FirstUncalled (take m.nodes ys.nodes) m.defs node = subst (λ (c : Counts). FirstUncalled (take c.nodes ys.nodes) c.defs node) same.counts (subst (λ (ls : Contents). FirstUncalled (take n.nodes ls.nodes) n.defs node) same.lists first) in
-      called_not (call_there m.defs (node_at (take m.nodes ys.nodes) node)) (all node (omega (arith, moved.within, length-take-le m.nodes ys.nodes q.nodes.within))) moved.here
+      both_ways (call_there m.defs (node_at (take m.nodes ys.nodes) node)) moved.here (all node (omega (arith, moved.within, length-take-le m.nodes ys.nodes q.nodes.within)))
 
   pub one_way : {xs ys : Contents} {r s : Result Counts Fault} → Outcome text before xs r → Outcome text before ys s → (r ≡ s) × (xs ≡ ys)
   one_way (Outcome.too_long {fault = f} _ kept told_f) (Outcome.too_long {fault = g} _ kept' told_g) = (ap (λ x. Err x) (told_apart f g (told_f ∙ sym told_g)), kept ∙ sym kept')
@@ -128,7 +118,7 @@ module _ {text : List ℕ} {before : Contents} where
   one_way {xs} {ys} (Outcome.undefined_call {fault = f} {counts = n} {node = j} {place = a} _ p first at told_f) (Outcome.undefined_call {fault = g} {counts = m} {node = k} {place = b} _ q first' at' told_g) =
       let same = same_end None None p q refl refl in
       let moved : FirstUncalled (take m.nodes ys.nodes) m.defs j = subst (λ (c : Counts). FirstUncalled (take c.nodes ys.nodes) c.defs j) same.counts (subst (λ (ls : Contents). FirstUncalled (take n.nodes ls.nodes) n.defs j) same.lists first) in
-      let node : j ≡ k = same_uncalled _ m.defs j k moved first' in
+      let node : j ≡ k = one_call moved first' in
       let place : a ≡ b = same_place p.passed (subst (λ i. NodeAt (sizes before) text i a) node at) at' in
       (ap (λ x. Err x) (told_apart f g (told_f ∙ ap (λ i. refusal 4 Table i) place ∙ sym told_g)), same.lists)
   one_way (Outcome.undefined_call _ p first _ _) (Outcome.accepted _ q all) = absurd (not_all_called p q first all)

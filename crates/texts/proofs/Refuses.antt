@@ -1,12 +1,14 @@
 -- A text is refused where it breaks a rule, with that rule's number and place. Assumes nothing.
 use Rattle.std.proofs.Common.{◌≡◌, ℕ, ◌<◌, List, length, take, Some, None, Option, Result, sym, refl, ap, ◌∙◌, subst, arith}
 use Rattle.std.proofs.lemmas.List.{length-take-le}
+use Rattle.std.proofs.lemmas.Bool.{both_ways}
+use Rattle.records.proofs.Breaks.{one_call}
 use Rattle.records.proofs.Kept.{some_none}
 use Rattle.records.specs.declared.fault.Fault.{Fault}
 use Rattle.records.specs.declared.fault.Layer.TheVariants.{Table}
 use Rattle.records.specs.Faults.{Refusal, refusal}
 use Rattle.records.specs.Rules.{FirstUncalled, Records, call_there, node_at}
-use Rattle.texts.proofs.OneWay.{called_not, same_place, same_uncalled}
+use Rattle.texts.proofs.OneWay.{same_place}
 use Rattle.texts.proofs.Outcomes.{one_outcome}
 use Rattle.texts.specs.Contents.{Contents, front, sizes}
 use Rattle.texts.specs.Readings.{Breaks, NodeAt, Outcome, Passed, ReadTo, Refused}
@@ -55,7 +57,7 @@ module _ {text : List ℕ} {before after : Contents} where
         too_long = λ long. absurd (omega arith);
         broken_line = λ place rs x h passed more breaks. absurd (not_broken read passed more breaks);
         undefined_call = λ rs node place h passed first at.
-            let node_is : j ≡ node = same_uncalled _ counts.defs j node lowest (moved read passed first) in
+            let node_is : j ≡ node = one_call lowest (moved read passed first) in
             let place_is : a ≡ place = same_place passed (subst (λ i. NodeAt (sizes before) text i a) node_is stands) at in
             ap (λ x. Some x) (is ∙ ap (λ i. refusal 4 Table i) place_is);
       }
@@ -66,5 +68,5 @@ module _ {text : List ℕ} {before after : Contents} where
         undefined_call = λ rs node place h passed first at.
             let low = moved read passed first in
             let nodes = take counts.nodes after.nodes in
-            absurd (called_not (call_there counts.defs (node_at nodes node)) (called node (omega (arith, low.within, length-take-le counts.nodes after.nodes read.nodes.within))) low.here);
+            absurd (both_ways (call_there counts.defs (node_at nodes node)) low.here (called node (omega (arith, low.within, length-take-le counts.nodes after.nodes read.nodes.within))));
       }

@@ -5,5 +5,4 @@ ghost use Rattle.texts.specs.Whole.{ReadAsWritten};
 #[tactic(auto, using(crate::proofs::Whole::read_as_written))]
 pub fn read_as_written()
     ensures { ReadAsWritten }
-{
-}
+{}
