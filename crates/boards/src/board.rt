@@ -2,7 +2,8 @@
 ghost use Rattle.std.specs.Prelude.{◌≡◌};
 ghost use Rattle.boards.specs.Meanings.{Meaning, Sound, offends_of, start_of, states_of, step_of};
 
-// Its ghost member is its meaning. A question about a policy or a state that is not there has no answer.
+// Its ghost member is its meaning. A question about a policy or a state that is not there has no answer. A step answers a pair, since
+// whoever runs a policy needs both at each event.
 pub trait Board {
     ghost meaning: { Self → Meaning };
 

@@ -31,7 +31,7 @@ fn check_records(nodes: &[NodeRecord], defs: &[DefRecord]) -> Result<(), Fault>
     check_calls(nodes, defs.len())
 }
 
-// The node that a record says; a field that its kind does not use is not looked at.
+// The node that a record says; a field that its kind does not use is not looked at. It cannot fail, so it is no `TryFrom`.
 fn node_of(from: NodeRecord) -> Node
     requires { parts_in_limits from.kind from.a from.b ≡ true }
     ensures { result ≡ node_of from }

@@ -17,7 +17,7 @@ pub struct Table {
 }
 
 impl Table {
-    // The node of this number.
+    // The node of this number. Nodes stay a list: definitions call one another, and a node may be a part of many, so they are no tree.
     pub fn node(&self, n: u8) -> Option<Node>
         ensures { result ≡ slice_get self.now.nodes.items n }
     {

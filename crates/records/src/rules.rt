@@ -10,7 +10,7 @@ use crate::record::{
     BadRecord, EdgeRecord, Kind, Line, MarkRecord, NodeRecord, Sofar, TariffRecord,
 };
 
-// Records that come in the order of some of their fields.
+// Records that come in the order of some of their fields; a derived order would compare `to` and `cost` too.
 trait Rising: Record {
     ghost earlier: { Self → Self → Bool };
 
@@ -90,6 +90,8 @@ impl NodeRecord {
     }
 }
 
+// Each of the first seven adds a list of its own to the next. An enum of the kinds in their order would say the eight cases twice, here
+// and in `specs/`.
 impl<'a> Sofar<'a> {
     fn has_no_tariffs(self) -> bool
         ensures { result ≡ no_tariffs (held self.entry) }

@@ -91,7 +91,7 @@ impl<'a> Source<'a> {
         })
     }
 
-    // A policy for each record.
+    // A policy for each record. It is a `for`, since `try_collect` tells how many items it made and not which.
     pub(crate) fn policies(&self, heap: Global) -> Result<Vec<Policy>, AllocError>
         ensures { IfOk result (λ policies. Same (laid_out policies.items) (meant self.now)) }
     {

@@ -1,5 +1,5 @@
 -- What the lists of a reading hold. Assumes nothing.
-use Rattle.std.specs.Prelude.{◌≡◌, ℕ, ◌<◌, ◌≤◌, Bool, true, cond, List, [], ◌∷◌, ◌++◌, length, take, drop, Some, None, Option, nat_lt}
+use Rattle.std.specs.Prelude.{◌≡◌, ℕ, ◌<◌, ◌≤◌, Bool, true, if◌then◌else◌, List, [], ◌∷◌, ◌++◌, length, take, drop, Some, None, Option, nat_lt}
 use Rattle.records.specs.declared.record.PolicyRecord.{PolicyRecord}
 use Rattle.records.specs.declared.record.BadRecord.{BadRecord}
 use Rattle.records.specs.declared.record.EdgeRecord.{EdgeRecord}
@@ -76,7 +76,7 @@ has_room room rs (Tariff r) = nat_lt (length rs.tariffs) room.tariffs
 
 -- the first of the rules 2, 3, 4 and 7 that a line breaks
 unfoldable pub broken : Room → Records → Line → Option ℕ
-broken room rs line = elim (breach rs line) [ None ↦ cond (has_room room rs line) None (Some 7) | Some n ↦ Some n ]
+broken room rs line = elim (breach rs line) [ None ↦ if has_room room rs line then None else Some 7 | Some n ↦ Some n ]
 
 -- the first n of a list are written over, and the rest is as it was
 pub record Overwritten {X : Type 0} (before after : List X) (n : ℕ) : Type 0 where

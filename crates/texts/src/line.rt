@@ -29,6 +29,7 @@ fn unused_are_zero(kind: Kind, a: u64, b: u64) -> bool
     }
 }
 
+// One function for each kind, which reads as its line does; one for several would take keys and a maker, and say no less.
 fn policy_line(text: &[u8]) -> Option<(Line, &[u8])>
     ensures { ReadsLine Policy text.now result }
 {

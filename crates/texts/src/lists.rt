@@ -3,7 +3,7 @@ use records::record::{
     BadRecord, DefRecord, EdgeRecord, MarkRecord, NodeRecord, PolicyRecord, TariffRecord,
 };
 
-// One list for each line kind that can repeat, handed in by the caller.
+// One list for each line kind that can repeat, handed in by the caller: a reading asks for no memory.
 #[derive(Drop)]
 pub struct Lists<'a> {
     pub policies: &'a mut [PolicyRecord],

@@ -38,7 +38,7 @@ impl fmt::Display for Counts {
     }
 }
 
-// Reads a text into lists that are long enough for every text, and tells how many records there are.
+// Reads a text into lists that are long enough for every text, and tells how many records there are. It asks for no memory.
 pub fn tally(text: &[u8]) -> Result<Counts, Fault>
     ensures { Tallied text.now result }
 {

@@ -19,7 +19,8 @@ fn push<T: Copy>(list: &mut [T], used: &mut usize, item: T) -> Option<()>
     Some(())
 }
 
-// The lists with the records so far at their fronts, and how many there are.
+// The lists with the records so far at their fronts, and how many there are. The counts stand beside the lists: tried in one struct for
+// each, reborrowed from the caller's, the proof lost what the lists hold at the end.
 #[derive(Drop)]
 pub(crate) struct Store<'a, 'b> {
     pub(crate) lists: &'a mut Lists<'b>,
