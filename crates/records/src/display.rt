@@ -24,9 +24,7 @@ impl fmt::Display for Fault {
 
     #[tactic(auto, using(crate::proofs::Numbers::written_is))]
     fn fmt<W: fmt::Write>(&self, f: &mut fmt::Formatter<W>) -> fmt::Result {
-        let number = self.number();
-        let layer = self.layer();
-        let place = self.place();
+        let (number, layer, place) = self.told();
         write!(f, "refused={number} layer={layer} place={place}")
     }
 }

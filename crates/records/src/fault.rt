@@ -50,67 +50,45 @@ pub enum Fault {
 }
 
 impl Fault {
+    // Its number, its layer and its place.
+    pub fn told(self) -> (u8, Layer, usize)
+        ensures { result ≡ ((told self).number, (told self).layer, (told self).place) }
+    {
+        match self {
+            Fault::Form(place) => (1, Layer::Line, place),
+            Fault::Order(place) => (2, Layer::Table, place),
+            Fault::Limit(place) => (3, Layer::Table, place),
+            Fault::Missing(place) => (4, Layer::Table, place),
+            Fault::NoJob(job) => (5, Layer::Station, job),
+            Fault::StrayPolicy(node) => (6, Layer::Station, node),
+            Fault::NoRoom(place) => (7, Layer::Table, place),
+            Fault::ShortList => (7, Layer::Station, 0),
+            Fault::Running => (20, Layer::Station, 0),
+            Fault::Idle => (21, Layer::Station, 0),
+            Fault::Offends(policy) => (22, Layer::Station, policy),
+            Fault::JournalFull => (23, Layer::Station, 0),
+            Fault::StackFull => (24, Layer::Station, 0),
+            Fault::Mismatch => (25, Layer::Station, 0),
+            Fault::NoMemory => (99, Layer::Table, 0),
+        }
+    }
+
     pub fn number(self) -> u8
         ensures { result ≡ (told self).number }
     {
-        match self {
-            Fault::Form(_) => 1,
-            Fault::Order(_) => 2,
-            Fault::Limit(_) => 3,
-            Fault::Missing(_) => 4,
-            Fault::NoJob(_) => 5,
-            Fault::StrayPolicy(_) => 6,
-            Fault::NoRoom(_) | Fault::ShortList => 7,
-            Fault::Running => 20,
-            Fault::Idle => 21,
-            Fault::Offends(_) => 22,
-            Fault::JournalFull => 23,
-            Fault::StackFull => 24,
-            Fault::Mismatch => 25,
-            Fault::NoMemory => 99,
-        }
+        self.told().0
     }
 
     pub fn layer(self) -> Layer
         ensures { result ≡ (told self).layer }
     {
-        match self {
-            Fault::Form(_) => Layer::Line,
-            Fault::Order(_)
-            | Fault::Limit(_)
-            | Fault::Missing(_)
-            | Fault::NoRoom(_)
-            | Fault::NoMemory => Layer::Table,
-            Fault::NoJob(_)
-            | Fault::StrayPolicy(_)
-            | Fault::ShortList
-            | Fault::Running
-            | Fault::Idle
-            | Fault::Offends(_)
-            | Fault::JournalFull
-            | Fault::StackFull
-            | Fault::Mismatch => Layer::Station,
-        }
+        self.told().1
     }
 
     pub fn place(self) -> usize
         ensures { result ≡ (told self).place }
     {
-        match self {
-            Fault::Form(place)
-            | Fault::Order(place)
-            | Fault::Limit(place)
-            | Fault::Missing(place)
-            | Fault::NoRoom(place) => place,
-            Fault::NoJob(place) | Fault::StrayPolicy(place) | Fault::Offends(place) => place,
-            Fault::NoMemory
-            | Fault::ShortList
-            | Fault::Running
-            | Fault::Idle
-            | Fault::JournalFull
-            | Fault::StackFull
-            | Fault::Mismatch => 0,
-        }
+        self.told().2
     }
 }
 
@@ -127,8 +105,5 @@ impl From<AllocError> for Fault {
 pub fn refused<T>(call: &Result<T, Fault>) -> Option<(u8, Layer, usize)>
     ensures { result ≡ option_map (λ t. (t.number, t.layer, t.place)) (answer call.now) }
 {
-    match call {
-        Ok(_) => None,
-        Err(fault) => Some((fault.number(), fault.layer(), fault.place())),
-    }
+    call.as_ref().err().map(|fault| fault.told())
 }

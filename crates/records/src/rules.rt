@@ -90,51 +90,7 @@ impl NodeRecord {
     }
 }
 
-// Each of the first seven adds a list of its own to the next. An enum of the kinds in their order would say the eight cases twice, here
-// and in `specs/`.
-impl<'a> Sofar<'a> {
-    fn has_no_tariffs(self) -> bool
-        ensures { result ≡ no_tariffs (held self.entry) }
-    {
-        self.tariffs.is_empty()
-    }
-
-    fn has_no_defs(self) -> bool
-        ensures { result ≡ no_defs (held self.entry) }
-    {
-        self.defs.is_empty() && self.has_no_tariffs()
-    }
-
-    fn has_no_nodes(self) -> bool
-        ensures { result ≡ no_nodes (held self.entry) }
-    {
-        self.nodes.is_empty() && self.has_no_defs()
-    }
-
-    fn has_no_marks(self) -> bool
-        ensures { result ≡ no_marks (held self.entry) }
-    {
-        self.marks.is_empty() && self.has_no_nodes()
-    }
-
-    fn has_no_quota(self) -> bool
-        ensures { result ≡ no_quota (held self.entry) }
-    {
-        self.quota.is_none() && self.has_no_marks()
-    }
-
-    fn has_no_edges(self) -> bool
-        ensures { result ≡ no_edges (held self.entry) }
-    {
-        self.edges.is_empty() && self.has_no_quota()
-    }
-
-    fn has_no_bads(self) -> bool
-        ensures { result ≡ no_bads (held self.entry) }
-    {
-        self.bads.is_empty() && self.has_no_edges()
-    }
-
+impl Sofar<'_> {
     fn has_state(self, policy: u64, state: u64) -> bool
         ensures { result ≡ state_there self.entry.policies.now policy state }
     {
@@ -146,14 +102,21 @@ impl<'a> Sofar<'a> {
     fn has_in_order(self, line: Line) -> bool
         ensures { result ≡ in_order (held self.entry) line }
     {
+        let no_tariffs = self.tariffs.is_empty();
+        let no_defs = self.defs.is_empty() && no_tariffs;
+        let no_nodes = self.nodes.is_empty() && no_defs;
+        let no_marks = self.marks.is_empty() && no_nodes;
+        let no_quota = self.quota.is_none() && no_marks;
+        let no_edges = self.edges.is_empty() && no_quota;
+        let no_bads = self.bads.is_empty() && no_edges;
         match line {
-            Line::Policy(r) => self.has_no_bads() && r.policy == self.policies.len() as u64,
-            Line::Bad(r) => self.has_no_edges() && rises(self.bads, r),
-            Line::Edge(r) => self.has_no_quota() && rises(self.edges, r),
-            Line::Quota(_) => self.has_no_quota(),
-            Line::Mark(r) => self.has_no_nodes() && rises(self.marks, r),
-            Line::Node(r) => self.has_no_defs() && r.node == self.nodes.len() as u64,
-            Line::Def(r) => self.has_no_tariffs() && r.def == self.defs.len() as u64,
+            Line::Policy(r) => no_bads && r.policy == self.policies.len() as u64,
+            Line::Bad(r) => no_edges && rises(self.bads, r),
+            Line::Edge(r) => no_quota && rises(self.edges, r),
+            Line::Quota(_) => no_quota,
+            Line::Mark(r) => no_nodes && rises(self.marks, r),
+            Line::Node(r) => no_defs && r.node == self.nodes.len() as u64,
+            Line::Def(r) => no_tariffs && r.def == self.defs.len() as u64,
             Line::Tariff(r) => rises(self.tariffs, r),
         }
     }
