@@ -38,7 +38,7 @@ pub const SEVEN: EdgeRecord = EdgeRecord {
     to: 2,
 };
 
-pub fn policy(p: u64, states: u64, start: u64) -> PolicyRecord
+pub(crate) fn policy(p: u64, states: u64, start: u64) -> PolicyRecord
     ensures { result ≡ record { policy = p; states = states; start = start } }
 {
     PolicyRecord {
