@@ -62,6 +62,7 @@ fn made_bodies(heap: Global, records: &[DefRecord]) -> Result<Vec<u8>, AllocErro
 
 impl Table {
     // Makes the table that the records say, or refuses the first break of a rule; it asks for memory once all rules are kept.
+    #[tactic(auto, using(crate::proofs::Exclusive::answers))]
     pub fn from_records(
         heap: Global,
         nodes: &[NodeRecord],
