@@ -1,17 +1,15 @@
 -- A making has one answer, but for want of memory. Assumes nothing.
-use Rattle.std.proofs.Common.{◌≡◌, ℕ, List, length, Result, arith}
-use Rattle.std.proofs.lemmas.Bool.{both_ways}
+use Rattle.std.proofs.Common.{◌≡◌, List, Result, arith}
 use Rattle.records.specs.declared.fault.Fault.{Fault}
 use Rattle.records.specs.declared.record.NodeRecord.{NodeRecord}
 use Rattle.records.specs.declared.record.DefRecord.{DefRecord}
 use Rattle.records.specs.Faults.{Refusal}
-use Rattle.records.specs.Rules.{AllCalled}
 use Rattle.records.proofs.Breaks.{apart, one_call, same_break}
 use Rattle.records.proofs.Makings as making
 use Rattle.records.specs.Makings.Makes.{made, refused, no_memory}
 use Rattle.jobs.proofs.Fits.{sound_as}
 use Rattle.jobs.specs.declared.table.Table.{Table}
-use Rattle.jobs.specs.Making.{BadCall, Broken, Kept, Makes, Only}
+use Rattle.jobs.specs.Making.{Broken, Kept, Makes, Only}
 
 module _ {nodes : List NodeRecord} {defs : List DefRecord} where
   -- the first break is told in one way

@@ -1,20 +1,15 @@
 -- Records that keep the rules say sound nodes and bodies. Assumes nothing.
-use Rattle.std.proofs.Common.{◌≡◌, ℕ, ◌<◌, ◌≤◌, true, eqb, ltb, List, [], map, length, take, None, sym, refl, ◌∙◌, subst, ⊎_elim, arith}
-use Rattle.std.proofs.lemmas.List.Elements.{All-from_get_or}
+use Rattle.std.proofs.Common.{◌≡◌, ℕ, ◌<◌, true, List, [], map, length, take, arith}
 use Rattle.std.proofs.lemmas.List.{get_or_default, get_or-map, length-map, length-take-le}
 use Rattle.std.proofs.lemmas.Bool.Decides.{nat_tests}
-use Rattle.std.proofs.lemmas.Bool.{and_from, and_parts, cases_lt, eqb-true, ltb-true}
-use Rattle.records.specs.declared.record.Kind.{Kind}
-use Rattle.records.specs.declared.record.Kind.TheVariants as kind
 use Rattle.records.specs.declared.record.Line.TheVariants as line
 use Rattle.records.specs.declared.record.NodeRecord.{NodeRecord}
 use Rattle.records.specs.declared.record.DefRecord.{DefRecord}
-use Rattle.records.specs.Rules.{call_there, no_defs, no_tariffs, node_at, parts_in_limits, parts_there}
+use Rattle.records.specs.Rules.{node_at, parts_in_limits, parts_there}
 use Rattle.records.proofs.Kept.{kept}
 use Rattle.jobs.specs.declared.node.Node.{Node}
-use Rattle.jobs.specs.declared.node.Node.TheVariants.{Empty}
-use Rattle.jobs.specs.Placed.{PlacedBodies, PlacedNodes, Sound, placed}
-use Rattle.jobs.specs.Making.{BodiesFit, Kept, NodesFit, alone, body_of, def_at, def_breach, node_breach, node_of, node_with}
+use Rattle.jobs.specs.Placed.{Sound}
+use Rattle.jobs.specs.Making.{BodiesFit, Kept, NodesFit, alone, body_of, def_at, node_of}
 
 -- node record k after those before it
 record NodeFits (nodes : List NodeRecord) (k : ℕ) : Type 0 where
@@ -27,10 +22,6 @@ record DefFits (nodes : List NodeRecord) (defs : List DefRecord) (d : ℕ) : Typ
   low : d < 32
   limit : body_of (def_at defs d) < 128
   there : body_of (def_at defs d) < length nodes
-
--- a node is placed whose fields are in their limits, whose parts are lower, and whose call is there
-placed_with : (kd : Kind) (a b n defs : ℕ) → parts_in_limits kd a b ≡ true → parts_there kd n a b ≡ true → call_there defs (record { node = n; kind = kd; a = a; b = b }) ≡ true → placed (node_with kd a b) n defs ≡ true
-placed_with kd a b n defs limits there call = grind (arith, nat_tests)
 
 module _ {nodes : List NodeRecord} {defs : List DefRecord} (all : Kept nodes defs) where
   node_fits : (k : ℕ) → k < length nodes → NodeFits nodes k
@@ -53,7 +44,7 @@ module _ {nodes : List NodeRecord} {defs : List DefRecord} (all : Kept nodes def
   sound = record {
     few = grind (arith, length-map, node_fits 128);
     defined = grind (arith, length-map, def_fits 32);
-    placed = λ n h. grind (arith, length-map, get_or-map, placed_with, node_fits n, all.every_call n);
+    placed = λ n h. grind (arith, nat_tests, length-map, get_or-map, node_fits n, all.every_call n);
     exist = λ d h. grind (arith, length-map, get_or-map, def_fits d);
   }
 
