@@ -1,12 +1,11 @@
 -- Edges that keep the rules are obeyed. Assumes nothing.
-use Rattle.std.proofs.Common.{◌≡◌, ℕ, zero, suc, ◌+◌, ◌-◌, ◌*◌, ◌<◌, true, false, eqb, List, [], ◌∷◌, length, take, Some, None, refl, subst, ⊎_elim, arith}
+use Rattle.std.proofs.Common.{◌≡◌, ℕ, Bool, get_or, zero, suc, ◌+◌, ◌*◌, ◌<◌, true, false, List, [], ◌∷◌, length, take, Some, None, refl, arith}
 use Rattle.std.proofs.lemmas.List.{get_or-take, length-take-le}
-use Rattle.std.proofs.lemmas.Bool.{cases_lt, ne_eqb}
 use Rattle.std.proofs.lemmas.Bool.Decides.{nat_tests}
 use Rattle.records.specs.declared.record.PolicyRecord.{PolicyRecord}
 use Rattle.records.specs.declared.record.BadRecord.{BadRecord}
 use Rattle.records.specs.declared.record.EdgeRecord.{EdgeRecord}
-use Rattle.records.specs.Rules.{earlier_edge, rises_edge}
+use Rattle.records.specs.Rules.{earlier_edge, rises}
 use Rattle.boards.specs.Tables.{edge_to, is_edge}
 use Rattle.table_board.specs.Making.{EdgesAreObeyed, Kept, edge_at}
 use Rattle.table_board.proofs.Fits.{each_edge}
@@ -19,30 +18,20 @@ key r = 2048 * r.policy + (256 * r.from + r.event)
 earlier_key : (x y : EdgeRecord) → x.from < 8 → x.event < 256 → earlier_edge x y ≡ true → key x < key y
 earlier_key x y state event h = grind (arith, nat_tests)
 
--- an edge with a higher key is not the one that is asked for
-not_asked : (x y : EdgeRecord) → key x < key y → is_edge y x.policy x.from x.event ≡ false
-not_asked x y above = grind (arith, nat_tests)
-
-asked : (x : EdgeRecord) → is_edge x x.policy x.from x.event ≡ true
-asked x = grind (arith, nat_tests)
-
 none_asked : (edges : List EdgeRecord) (p q e : ℕ) → ((j : ℕ) → j < length edges → is_edge (edge_at edges j) p q e ≡ false) → edge_to edges p q e ≡ None
 none_asked [] p q e none = refl
-none_asked (x ∷ edges) p q e none = rw (none_asked edges p q e (λ j h. none (suc j) (omega arith)), none 0 (omega arith))
+none_asked (x ∷ edges) p q e none = grind (arith, none_asked edges p q e (λ j h. none (suc j) (omega arith)), none 0)
 
 -- the last edge that is asked for counts
 last_asked : (edges : List EdgeRecord) (k p q e : ℕ) → k < length edges → is_edge (edge_at edges k) p q e ≡ true → ((j : ℕ) → k < j → j < length edges → is_edge (edge_at edges j) p q e ≡ false)
     → edge_to edges p q e ≡ Some (edge_at edges k).to
 last_asked [] k p q e within here none = absurd (omega arith)
-last_asked (x ∷ edges) zero p q e within here none = rw (none_asked edges p q e (λ j h. none (suc j) (omega arith) (omega arith)), here)
-last_asked (x ∷ edges) (suc k) p q e within here none = rw (last_asked edges k p q e (omega arith) here (λ j h l. none (suc j) (omega arith) (omega arith)))
+last_asked (x ∷ edges) zero p q e within here none = grind (arith, none_asked edges p q e (λ j h. none (suc j) (omega arith) (omega arith)))
+last_asked (x ∷ edges) (suc k) p q e within here none = grind (arith, last_asked edges k p q e (omega arith) here (λ j h l. none (suc j) (omega arith) (omega arith)))
 
--- what rises behind some edges comes after the last of them
-rises_last : (edges : List EdgeRecord) (k : ℕ) (r : EdgeRecord) → length edges ≡ suc k → rises_edge edges r ≡ true → earlier_edge (edge_at edges k) r ≡ true
-rises_last edges k r long h =
-    let some : eqb (length edges) 0 ≡ false = ne_eqb (length edges) 0 (λ e. omega arith) in
-    let last : length edges - 1 ≡ k = omega arith in
-    rw (some, last) at h
+-- what rises behind some comes after the last of them
+rises_last : {X : Type 0} (earlier : X → X → Bool) (none : X) (xs : List X) (k : ℕ) (r : X) → length xs ≡ suc k → rises earlier none xs r ≡ true → earlier (get_or xs k none) r ≡ true
+rises_last earlier none xs k r long h = grind (arith, nat_tests)
 
 module _ {policies : List PolicyRecord} {bads : List BadRecord} {edges : List EdgeRecord} (all : Kept policies bads edges) where
   -- each key is above the one before it
@@ -50,17 +39,14 @@ module _ {policies : List PolicyRecord} {bads : List BadRecord} {edges : List Ed
   next_key k within =
       let r = edge_at edges (suc k) in
       let before = each_edge all k (omega arith) in
-      let last = rises_last (take (suc k) edges) k r (length-take-le (suc k) edges (omega arith)) (each_edge all (suc k) within).rises in
-      let read : edge_at (take (suc k) edges) k ≡ edge_at edges k = get_or-take (suc k) edges k _ (omega arith) in
-      earlier_key (edge_at edges k) r before.state before.event (subst (λ x. earlier_edge x r ≡ true) read last)
+      let last = rises_last earlier_edge _ (take (suc k) edges) k r (length-take-le (suc k) edges (omega arith)) (each_edge all (suc k) within).rises in
+      earlier_key (edge_at edges k) r before.state before.event (rw (get_or-take (suc k) edges k _ (omega arith)) at last)
 
   rising : (k j : ℕ) → k < j → j < length edges → key (edge_at edges k) < key (edge_at edges j)
   rising k zero less within = absurd (omega arith)
-  rising k (suc j) less within =
-      let next = next_key j within in
-      ⊎_elim (λ lower. omega (arith, rising k j lower (omega arith))) (λ high. let same : k ≡ j = omega arith in rw same next) (cases_lt k j)
+  rising k (suc j) less within = grind (arith, next_key j within, rising k j)
 
 pub edges_are_obeyed : EdgesAreObeyed
 edges_are_obeyed policies bads edges all k within =
     let r = edge_at edges k in
-    last_asked edges k r.policy r.from r.event within (asked r) (λ j less inside. not_asked r (edge_at edges j) (rising all k j less inside))
+    last_asked edges k r.policy r.from r.event within (grind (arith, nat_tests)) (λ j less inside. grind (arith, nat_tests, rising all k j less inside))

@@ -9,6 +9,7 @@ use std::alloc::Global;
 
 impl TableBoard {
     // Makes the board that the records say, or refuses the first break of a rule; it asks for memory once all rules are kept.
+    #[tactic(auto, using(crate::proofs::Exclusive::answers))]
     pub fn from_records(
         heap: Global,
         policies: &[PolicyRecord],

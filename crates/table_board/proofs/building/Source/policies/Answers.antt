@@ -1,6 +1,3 @@
-use Rattle.std.proofs.Common.{subst}
-use Rattle.boards.specs.Meanings.{SameAutomaton}
-use Rattle.table_board.specs.Policies.{automaton_of}
 use Rattle.table_board.specs.Building.{meant}
 use Rattle.table_board.proofs.Fits.{each_policy}
 use Rattle.table_board.proofs.Laying.{policies_more}
@@ -10,5 +7,4 @@ pub loop-given-preserved : goal.loop-given-preserved
 loop-given-preserved c =
     let source = c.args.self.now in
     let number = (each_policy source.kept c.loop-given.given-index c.loop-given-test.true).number in
-    rw c.in_ok-push.ensures.items (
-    policies_more (meant source).automaton c.loop-given.given-index _ _ c.loop-given.invariant (subst (λ p. SameAutomaton (automaton_of c.in_ok-policy.field-0) ((meant source).automaton p)) number c.in_ok-policy.ensures))
+    rw c.in_ok-push.ensures.items (policies_more (meant source).automaton _ _ _ c.loop-given.invariant (rw number at c.in_ok-policy.ensures))
