@@ -1,13 +1,9 @@
 -- Runs of a board's automata. Assumes nothing.
-use Rattle.std.proofs.Common.{◌≡◌, ℕ, ◌+◌, ◌<◌, Bool, List, [], ◌∷◌, ◌++◌, length, get_or, take, Some, sym, ap, ◌∙◌, arith}
+use Rattle.std.proofs.Common.{◌≡◌, ℕ, ◌+◌, ◌<◌, Bool, List, length, get_or, take, Some, arith}
 use Rattle.std.proofs.lemmas.List.{take_more}
-use Rattle.histories.specs.Automata.{Automaton, run}
-use Rattle.histories.proofs.Counts.{run-push}
-use Rattle.boards.specs.Meanings.{Meaning, Closed, Sound, start_of, step_of}
-
--- what a step that answered says
-pub step_gives : (m : Meaning) (p q e n : ℕ) (f : Bool) → Some (n, f) ≡ step_of m p q e → (p < m.count) × (q < (m.automaton p).states) × (n ≡ (m.automaton p).next q e) × (f ≡ (m.automaton p).offends n)
-step_gives m p q e n f h = grind arith
+use Rattle.histories.specs.Automata.{run}
+use Rattle.histories.proofs.Counts.{run-nil, run-push}
+use Rattle.boards.specs.Meanings.{Meaning, Sound, start_of, step_of}
 
 -- the automaton of p stands at q, a state of it, after the first i of some events
 pub record Stands (m : Meaning) (p : ℕ) (es : List ℕ) (i q : ℕ) : Type 0 where
@@ -17,26 +13,12 @@ pub record Stands (m : Meaning) (p : ℕ) (es : List ℕ) (i q : ℕ) : Type 0 w
 
 -- one event more
 pub stands_more : (m : Meaning) → Sound m → (p : ℕ) (es : List ℕ) (i q e n : ℕ) (f : Bool) → Stands m p es i q → i < length es → e ≡ get_or es i 0 → Some (n, f) ≡ step_of m p q e → Stands m p es (i + 1) n
-stands_more m sound p es i q e n f now within read stepped =
-    let a = m.automaton p in
-    let moves = (step_gives m p q e n f stepped).2 in
-    let one_more : take (i + 1) es ≡ take i es ++ (e ∷ []) = rw read (take_more es i 0 within) in
-    record {
-      policy = now.policy;
-      state = rw moves ((sound.closed p now.policy).stays q e now.state);
-      reached = moves ∙ ap (λ s. a.next s e) now.reached ∙ sym (ap (run a a.start) one_more ∙ run-push a a.start (take i es) e);
-    }
-
--- a run stays among the states
-pub run-stays : (a : Automaton) → Closed a → (q : ℕ) (es : List ℕ) → q < a.states → run a q es < a.states
-unfolding run
-run-stays a closed q [] inside = inside
-run-stays a closed q (e ∷ es) inside = run-stays a closed (a.next q e) es (closed.stays q e inside)
+stands_more m sound p es i q e n f now within read stepped = record {
+  policy = now.policy;
+  state = grind (arith, sound.closed p now.policy);
+  reached = grind (arith, take_more es i 0 within, run-push);
+}
 
 -- before the first event the automaton stands at its start
 pub stands_first : (m : Meaning) → Sound m → (p : ℕ) (es : List ℕ) (q : ℕ) → Some q ≡ start_of m p → Stands m p es 0 q
-unfolding run
-stands_first m sound p es q h =
-    let there : p < m.count = grind arith in
-    let inside = (sound.closed p there).starts in
-    record { policy = there; state = grind arith; reached = grind arith }
+stands_first m sound p es q h = record { policy = grind arith; state = grind (arith, sound.closed p); reached = grind (arith, run-nil) }
