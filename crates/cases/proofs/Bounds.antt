@@ -2,6 +2,7 @@
 use Rattle.std.proofs.Common.{◌≡◌, ℕ, zero, suc, ◌<◌, Bool, true, false, cond, not, ◌&&◌, ◌||◌, eqb, ltb, ◌⊎◌, List, [], ◌∷◌, ◌++◌, length, get_or, Some, sym, ap, ◌∙◌, subst, inl, inr, arith}
 use Rattle.std.specs.List.{slice_get}
 use Rattle.std.proofs.lemmas.Option.{slice_get_within, get_or_from_slice_get}
+use Rattle.std.proofs.lemmas.Bool.Decides.{nat_tests}
 use Rattle.std.proofs.lemmas.Bool.{ltb-true, and_parts, or_left, or_right, cases_Bool, cases_lt}
 use Rattle.jobs.specs.declared.node.Node.{Node}
 use Rattle.jobs.specs.declared.node.Node.TheVariants.{Empty, Event, Seq, Choice, Frame, Call}
@@ -27,12 +28,7 @@ all_below (suc n) f = f n && all_below n f
 
 pub all_below_at : (n : ℕ) (f : ℕ → Bool) → all_below n f ≡ true → (k : ℕ) → k < n → f k ≡ true
 all_below_at zero f h k lt = absurd (omega arith)
-all_below_at (suc n) f h k lt =
-    let parts = and_parts (f n) (all_below n f) h in
-    elim (cases_lt k n) [
-      | inl less ↦ all_below_at n f parts.1 k less
-      | inr more ↦ let e : k ≡ n = omega arith in rw e parts.0
-    ]
+all_below_at (suc n) f h k lt = grind (arith, all_below_at n f)
 
 module _ {S : Type 0} (m : Measure S) (s : Setting) (p : ℕ) where
   abbrev automaton : Automaton
@@ -85,15 +81,7 @@ module _ {S : Type 0} (m : Measure S) (s : Setting) (p : ℕ) where
       started : (f : Bool) → every m (covers m (opens turns n q f)) (opens_all (ends turns) (opens turns) x n q f) ≡ true
 
     rules_at : (x : Node) (n q : ℕ) → settled_at x n q ≡ true → Rules x n q
-    rules_at x n q h =
-        let first = and_parts _ _ h in
-        let second = and_parts _ _ first.1 in
-        let third = and_parts _ _ second.1 in
-        record {
-          range = first.0;
-          complete = second.0;
-          started = λ f. elim f as (λ g. every m (covers m (opens turns n q g)) (opens_all (ends turns) (opens turns) x n q g) ≡ true) [ true ↦ third.0 | false ↦ third.1 ];
-        }
+    rules_at x n q h = record { range = grind arith; complete = grind arith; started = λ f. grind arith }
 
     module _ (ok : settled ≡ true) (table : Sound s.nodes s.bodies) (laws : Laws m) where
       rules : {x : Node} {n q : ℕ} → slice_get s.nodes n ≡ Some x → q < automaton.states → Rules x n q
@@ -135,20 +123,17 @@ module _ {S : Type 0} (m : Measure S) (s : Setting) (p : ℕ) where
       OpenAfter f w = (f ≡ true) ⊎ LeavesOpen p w
 
       low : p < 8
-      low = ltb-true p 8 (and_parts (ltb p 8) _ ok).0
+      low = grind (arith, nat_tests)
 
       -- what is balanced leaves it as it was
       was_open : (f : Bool) (w : List ℕ) → Balanced p w → OpenAfter f w → f ≡ true
-      was_open f w b (inl e) = e
-      was_open f w b (inr lt) = absurd (omega arith)
+      was_open f w b o = grind arith
 
       open_rest : (f : Bool) (u v : List ℕ) → Balanced p u → OpenAfter f (u ++ v) → OpenAfter f v
-      open_rest f u v b (inl e) = inl e
-      open_rest f u v b (inr lt) = inr (open_behind p u v b lt)
+      open_rest f u v b o = grind (arith, open_behind p u v b)
 
       open_part : (f : Bool) (i : ℕ) (u : List ℕ) → i < 8 → OpenAfter f (opening i ∷ u) → OpenAfter (f || eqb i p) u
-      open_part f i u few (inl e) = inl (or_left f _ e)
-      open_part f i u few (inr lt) = elim (cases_Bool (eqb i p)) [ inl e ↦ inl (or_right f _ e) | inr e ↦ inr (open_inside p i u few e lt) ]
+      open_part f i u few o = grind (arith, open_inside p i u few)
 
       was_reached : {x : Node} (n q : ℕ) (f : Bool) (w : List ℕ) → slice_get s.nodes n ≡ Some x → q < automaton.states → Balanced p w → OpenAfter f w → Reached ((q, m.nothing) ∷ ends turns n q) q w → Reached (opens turns n q f) q w
       was_reached {x} n q f w e lt b o t =

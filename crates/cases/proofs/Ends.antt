@@ -1,6 +1,7 @@
 -- Lists of states with efforts, as bounds of the efforts with which the states are reached. Assumes nothing.
-use Rattle.std.proofs.Common.{◌≡◌, ℕ, Bool, true, ◌&&◌, eqb, List, [], ◌∷◌, ◌++◌, map, inl, inr}
+use Rattle.std.proofs.Common.{◌≡◌, ℕ, Bool, true, ◌&&◌, eqb, List, [], ◌∷◌, ◌++◌, map, inl, inr, arith}
 use Rattle.std.specs.List.{flat_map, list_all, list_any}
+use Rattle.std.proofs.lemmas.Bool.Decides.{nat_tests}
 use Rattle.std.proofs.lemmas.Bool.{eqb-true, and_parts, or_cases, false≢true}
 use Rattle.scales.specs.Measures.{Measure, Laws}
 use Rattle.scales.proofs.Joins.{joined_most}
@@ -30,11 +31,7 @@ module _ {S : Type 0} (m : Measure S) where
 
   covers_true : (es : Ends) (k : ℕ) (y : S) → covers es k y ≡ true → Covers es k y
   covers_true [] k y h = absurd (false≢true h)
-  covers_true ((j, x) ∷ es) k y h =
-      elim (or_cases (eqb j k && m.at_most x y) (covers es k y) h) [
-        | inl e ↦ let parts = and_parts (eqb j k) (m.at_most x y) e in rw (eqb-true j k parts.0) (Covers.here parts.1)
-        | inr e ↦ Covers.there (covers_true es k y e)
-      ]
+  covers_true (e ∷ es) k y h = grind (arith, nat_tests, Covers.here, Covers.there, covers_true es k y)
 
   pub covers_first : {es : Ends} (fs : Ends) {k : ℕ} {y : S} → Covers es k y → Covers (es ++ fs) k y
   covers_first fs (Covers.here h) = Covers.here h
@@ -49,8 +46,8 @@ module _ {S : Type 0} (m : Measure S) where
 
   -- a test of all that is listed holds of an effort at or below one that is covered
   pub every_at : (f : ℕ → S → Bool) {es : Ends} {k : ℕ} {y : S} → every f es ≡ true → Covers es k y → (x : S) × (m.at_most x y ≡ true) × (f k x ≡ true)
-  every_at f h (Covers.here {es} {k} {x} {y} l) = (x, l, (and_parts (f k x) _ h).0)
-  every_at f h (Covers.there {e} t) = every_at f (and_parts (f e.0 e.1) _ h).1 t
+  every_at f h (Covers.here {es} {k} {x} {y} l) = (x, l, grind arith)
+  every_at f h (Covers.there {e} t) = every_at f (grind arith) t
 
   module _ (laws : Laws m) where
     covers_more : {es : Ends} {k : ℕ} {x y : S} → m.at_most x y ≡ true → Covers es k x → Covers es k y

@@ -1,7 +1,8 @@
 -- The played cases hold: a test of a case, which computes, and what it shows. Assumes nothing.
-use Rattle.std.proofs.Common.{◌≡◌, ℕ, Bool, true, false, not, ◌&&◌, ◌||◌, eqb, ltb, List, [], ◌∷◌, length, get_or, Some, refl, subst}
+use Rattle.std.proofs.Common.{◌≡◌, ℕ, Bool, true, false, not, ◌&&◌, ◌||◌, eqb, ltb, List, [], ◌∷◌, length, get_or, Some, refl, subst, arith}
 use Rattle.std.specs.List.{slice_get}
 use Rattle.std.proofs.lemmas.Option.{slice_get_within}
+use Rattle.std.proofs.lemmas.Bool.Decides.{nat_tests}
 use Rattle.std.proofs.lemmas.Bool.{ltb-true, leb-true, eqb-true, and_parts, false≢true}
 use Rattle.jobs.specs.declared.node.Node.TheVariants.{Empty}
 use Rattle.jobs.specs.Placed.{Sound, placed}
@@ -61,10 +62,7 @@ module _ (s : Setting) (turns : ℕ) where
         offends_above sum s p turns good table sum_laws body (state_after p past) g here.1 (ltb-true _ _ here.0) w begun o.offends
 
     offends_right : (past : List ℕ) (p : ℕ) (w : List ℕ) → offends_checked past p w ≡ true → OffendsOn s.board p past w
-    offends_right past p w h =
-        let first = and_parts (ltb p s.board.count) _ h in
-        let second = and_parts (ltb (occurrences (closing p) w) (occurrences (opening p) w)) _ first.1 in
-        record { there = ltb-true _ _ first.0; offends = record { opens = ltb-true _ _ second.0; stands = second.1 } }
+    offends_right past p w h = record { there = grind (arith, nat_tests); offends = record { opens = grind (arith, nat_tests); stands = grind arith } }
 
     verdict_right : (past : List ℕ) (job body : ℕ) (v : Verdict) → slice_get s.bodies job ≡ Some body → verdict_checked past v body ≡ true → VerdictHolds s past job v
     verdict_right past job body passes named h =
@@ -90,9 +88,9 @@ module _ (s : Setting) (turns : ℕ) where
 -- the nodes and bodies are those of a table
 table : Sound nodes bodies
 table = record {
-  few = leb-true _ _ refl;
-  defined = leb-true _ _ refl;
-  placed = λ n lt. all_below_at (length nodes) (λ n. placed (get_or nodes n Empty) n (length bodies)) refl n lt;
+  few = omega arith;
+  defined = omega arith;
+  placed = all_below_at (length nodes) (λ n. placed (get_or nodes n Empty) n (length bodies)) refl;
   exist = λ d lt. ltb-true _ _ (all_below_at (length bodies) (λ d. ltb (get_or bodies d 0) (length nodes)) refl d lt);
 }
 

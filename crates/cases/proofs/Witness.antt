@@ -1,6 +1,7 @@
 -- A test that a list is a started history of a node. Assumes nothing.
-use Rattle.std.proofs.Common.{◌≡◌, ℕ, zero, suc, Bool, true, false, ◌&&◌, ◌||◌, eqb, List, [], ◌∷◌, ◌++◌, Some, None, Option, sym, refl, ap, ◌∙◌, inl, inr, append_assoc}
+use Rattle.std.proofs.Common.{◌≡◌, ℕ, zero, suc, Bool, true, false, ◌&&◌, ◌||◌, eqb, List, [], ◌∷◌, ◌++◌, Some, None, Option, sym, refl, ap, ◌∙◌, inl, inr, append_assoc, arith}
 use Rattle.std.specs.List.{slice_get}
+use Rattle.std.proofs.lemmas.Bool.Decides.{nat_tests}
 use Rattle.std.proofs.lemmas.Bool.{eqb-true, and_parts, or_cases, false≢true}
 use Rattle.jobs.specs.declared.node.Node.{Node}
 use Rattle.jobs.specs.declared.node.Node.TheVariants.{Empty, Event, Seq, Choice, Frame, Call}
@@ -14,7 +15,7 @@ after s g (x ∷ w) = eqb x s && g w
 
 after_true : (s : ℕ) (g : List ℕ → Bool) (w : List ℕ) → after s g w ≡ true → (v : List ℕ) × (w ≡ s ∷ v) × (g v ≡ true)
 after_true s g [] h = absurd (false≢true h)
-after_true s g (x ∷ w) h = let parts = and_parts (eqb x s) (g w) h in (w, ap (λ (y : ℕ). y ∷ w) (eqb-true x s parts.0), parts.1)
+after_true s g (x ∷ w) h = (w, grind (arith, nat_tests), grind arith)
 
 abbrev no_more : List ℕ → Bool
 no_more [] = true
@@ -88,8 +89,7 @@ module _ (nodes : List Node) (bodies : List ℕ) where
   begins_by_right t right n g w (Seq l r) e h =
       let x = right l (t r g) w h in
       let y = right r g x.rest x.holds in
-      let joins : w ≡ (x.done ++ y.done) ++ y.rest = x.joins ∙ ap (λ (v : List ℕ). x.done ++ v) y.joins ∙ sym (append_assoc x.done y.done y.rest) in
-      record { done = x.done ++ y.done; rest = y.rest; joins = joins; complete = Complete.sequence e x.complete y.complete; holds = y.holds }
+      record { done = x.done ++ y.done; rest = y.rest; joins = grind (arith, append_assoc); complete = Complete.sequence e x.complete y.complete; holds = y.holds }
   begins_by_right t right n g w (Choice l r) e h =
       elim (or_cases (t l g w) (t r g w) h) [
         | inl i ↦ handed_on (λ u. Complete.left e) (right l g w i)
@@ -99,8 +99,7 @@ module _ (nodes : List Node) (bodies : List ℕ) where
       let (v, first, there) = after_true (opening p) (t m (after (closing p) g)) w h in
       let x = right m (after (closing p) g) v there in
       let (z, last, held) = after_true (closing p) g x.rest x.holds in
-      let inside : v ≡ (x.done ++ (closing p ∷ [])) ++ z = x.joins ∙ ap (λ (u : List ℕ). x.done ++ u) last ∙ sym (append_assoc x.done (closing p ∷ []) z) in
-      record { done = opening p ∷ (x.done ++ (closing p ∷ [])); rest = z; joins = first ∙ ap (λ (u : List ℕ). opening p ∷ u) inside; complete = Complete.framed e x.complete; holds = held }
+      record { done = opening p ∷ (x.done ++ (closing p ∷ [])); rest = z; joins = grind (arith, append_assoc); complete = Complete.framed e x.complete; holds = held }
   begins_by_right t right n g w (Call d) e h =
       let (b, named, there) = holds_of_true (slice_get bodies d) (λ b. t b g w) h in
       handed_on (λ u. Complete.called e named) (right b g w there)
