@@ -1,14 +1,14 @@
 -- The played cases hold: a test of a case, which computes, and what it shows. Assumes nothing.
-use Rattle.std.proofs.Common.{◌≡◌, ℕ, Bool, true, false, not, ◌&&◌, ◌||◌, eqb, ltb, List, [], ◌∷◌, length, get_or, Some, refl, subst, arith}
+use Rattle.std.proofs.Common.{◌≡◌, ℕ, Bool, true, false, not, ◌&&◌, ◌||◌, eqb, ltb, List, [], ◌∷◌, length, get_or, Some, refl, arith}
 use Rattle.std.specs.List.{slice_get}
 use Rattle.std.proofs.lemmas.Option.{slice_get_within}
 use Rattle.std.proofs.lemmas.Bool.Decides.{nat_tests}
-use Rattle.std.proofs.lemmas.Bool.{ltb-true, leb-true, eqb-true, and_parts, false≢true}
+use Rattle.std.proofs.lemmas.Bool.{ltb-true, false≢true}
 use Rattle.jobs.specs.declared.node.Node.TheVariants.{Empty}
 use Rattle.jobs.specs.Placed.{Sound, placed}
 use Rattle.histories.specs.Symbols.{opening, closing, events, occurrences}
 use Rattle.histories.specs.Automata.{run}
-use Rattle.histories.specs.Histories.{Started, JobStarted}
+use Rattle.histories.specs.Histories.{JobStarted}
 use Rattle.boards.specs.Meanings.{OffendsOn}
 use Rattle.scales.specs.declared.efforts.Sum.{Sum}
 use Rattle.scales.specs.Efforts.{effort, joined_costs}
@@ -55,11 +55,10 @@ module _ (s : Setting) (turns : ℕ) where
     -- then it holds at or below the effort of each history that offends
     above : (past : List ℕ) (job body : ℕ) (g : Sum → Bool) → slice_get s.bodies job ≡ Some body → all_below s.board.count (bound_at past body g) ≡ true → (p : ℕ) (w : List ℕ) → JobStarted s.nodes s.bodies job w → OffendsOn s.board p past w → (y : Sum) × (sum.at_most y (effort sum s.costs w) ≡ true) × (g y ≡ true)
     above past job body g named h p w j o =
-        let here = and_parts (ltb (state_after p past) (s.board.automaton p).states) _ (all_below_at s.board.count (bound_at past body g) h p o.there) in
+        let here = all_below_at s.board.count (bound_at past body g) h p o.there in
         let good = all_below_at s.board.count (λ p. settled sum s p turns) ok p o.there in
         let same : j.body ≡ body = cc in
-        let begun : Started s.nodes s.bodies body w = subst (λ (n : ℕ). Started s.nodes s.bodies n w) same j.started in
-        offends_above sum s p turns good table sum_laws body (state_after p past) g here.1 (ltb-true _ _ here.0) w begun o.offends
+        offends_above sum s p turns good table sum_laws body (state_after p past) g (grind arith) (grind (arith, nat_tests)) w (rw same at j.started) o.offends
 
     offends_right : (past : List ℕ) (p : ℕ) (w : List ℕ) → offends_checked past p w ≡ true → OffendsOn s.board p past w
     offends_right past p w h = record { there = grind (arith, nat_tests); offends = record { opens = grind (arith, nat_tests); stands = grind arith } }
@@ -67,23 +66,18 @@ module _ (s : Setting) (turns : ℕ) where
     verdict_right : (past : List ℕ) (job body : ℕ) (v : Verdict) → slice_get s.bodies job ≡ Some body → verdict_checked past v body ≡ true → VerdictHolds s past job v
     verdict_right past job body passes named h =
         record { there = slice_get_within s.bodies job body named; none = λ p w j o. false≢true (above past job body (λ x. false) named h p w j o).2 }
-    verdict_right past job body (offends p w cost) named h =
-        let first = and_parts (starts s.nodes s.bodies turns body w) _ h in
-        let second = and_parts (offends_checked past p w) _ first.1 in
-        let third = and_parts (eqb (effort sum s.costs w).cost (sum_of cost).cost) _ second.1 in
-        record {
-          started = record { body = body; names = named; started = starts_right s.nodes s.bodies turns body w first.0 };
-          offends = offends_right past p w second.0;
-          costs = same_cost _ _ (eqb-true _ _ third.0);
-          least = λ p' w' j o. let (y, less, more) = above past job body (sum.at_most (sum_of cost)) named third.1 p' w' j o in sum_laws.transitive (sum_of cost) y (effort sum s.costs w') more less;
-        }
+    verdict_right past job body (offends p w cost) named h = record {
+      started = record { body = body; names = named; started = starts_right s.nodes s.bodies turns body w (grind arith) };
+      offends = offends_right past p w (grind arith);
+      costs = same_cost _ _ (grind (arith, nat_tests));
+      least = λ p' w' j o. let (y, less, more) = above past job body (sum.at_most (sum_of cost)) named (grind arith) p' w' j o in sum_laws.transitive (sum_of cost) y (effort sum s.costs w') more less;
+    }
 
     all_right : (cs : List Case) → all_pass cs ≡ true → AllHold s cs
     all_right [] h = tt
     all_right (c ∷ cs) h =
-        let parts = and_parts (holds_of (slice_get s.bodies c.job) (verdict_checked c.past c.verdict)) _ h in
-        let (body, named, here) = holds_of_true (slice_get s.bodies c.job) (verdict_checked c.past c.verdict) parts.0 in
-        (verdict_right c.past c.job body c.verdict named here, all_right cs parts.1)
+        let (body, named, here) = holds_of_true (slice_get s.bodies c.job) (verdict_checked c.past c.verdict) (grind arith) in
+        (verdict_right c.past c.job body c.verdict named here, all_right cs (grind arith))
 
 -- the nodes and bodies are those of a table
 table : Sound nodes bodies

@@ -1,8 +1,8 @@
 -- A test that a list is a started history of a node. Assumes nothing.
-use Rattle.std.proofs.Common.{◌≡◌, ℕ, zero, suc, Bool, true, false, ◌&&◌, ◌||◌, eqb, List, [], ◌∷◌, ◌++◌, Some, None, Option, sym, refl, ap, ◌∙◌, inl, inr, append_assoc, arith}
+use Rattle.std.proofs.Common.{◌≡◌, ℕ, zero, suc, Bool, true, false, ◌&&◌, ◌||◌, eqb, List, [], ◌∷◌, ◌++◌, Some, None, Option, refl, inl, inr, append_assoc, arith}
 use Rattle.std.specs.List.{slice_get}
 use Rattle.std.proofs.lemmas.Bool.Decides.{nat_tests}
-use Rattle.std.proofs.lemmas.Bool.{eqb-true, and_parts, or_cases, false≢true}
+use Rattle.std.proofs.lemmas.Bool.{or_cases, false≢true}
 use Rattle.jobs.specs.declared.node.Node.{Node}
 use Rattle.jobs.specs.declared.node.Node.TheVariants.{Empty, Event, Seq, Choice, Frame, Call}
 use Rattle.histories.specs.Symbols.{opening, closing}
@@ -110,23 +110,13 @@ module _ (nodes : List Node) (bodies : List ℕ) where
       let (x, is, there) = holds_of_true (slice_get nodes n) (begins_by (begins turns) g w) h in
       begins_by_right (begins turns) (begins_right turns) n g w x is there
 
-  nothing_or : {n : ℕ} {x : Node} (w : List ℕ) (b : Bool) → slice_get nodes n ≡ Some x → (b ≡ true → Started nodes bodies n w) → (no_more w || b) ≡ true → Started nodes bodies n w
-  nothing_or w b e more h = elim (or_cases (no_more w) b h) [ inl i ↦ rw (no_more_true w i) (Started.nothing e) | inr i ↦ more i ]
-
   starts_by_right : (t : Beginning) → BeginsRight t → (s : ℕ → List ℕ → Bool) → StartsRight s → (n : ℕ) (w : List ℕ) (x : Node) → slice_get nodes n ≡ Some x → starts_by t s w x ≡ true → Started nodes bodies n w
-  starts_by_right t right s ok n w Empty e h = rw (no_more_true w h) (Started.nothing e)
-  starts_by_right t right s ok n w (Event i) e h =
-      nothing_or w _ e (λ j. let (v, first, held) = after_true i no_more w j in rw (first, no_more_true v held) (Started.event e)) h
-  starts_by_right t right s ok n w (Seq l r) e h =
-      elim (or_cases (s l w) (t l (s r) w) h) [
-        | inl i ↦ Started.first e (ok l w i)
-        | inr i ↦ let x = right l (s r) w i in rw x.joins (Started.second e x.complete (ok r x.rest x.holds))
-      ]
-  starts_by_right t right s ok n w (Choice l r) e h = elim (or_cases (s l w) (s r w) h) [ inl i ↦ Started.left e (ok l w i) | inr i ↦ Started.right e (ok r w i) ]
-  starts_by_right t right s ok n w (Frame p m) e h =
-      nothing_or w _ e (λ j. let (v, first, held) = after_true (opening p) (s m) w j in rw first (Started.opened e (ok m v held))) h
-  starts_by_right t right s ok n w (Call d) e h =
-      nothing_or w _ e (λ j. let (b, named, held) = holds_of_true (slice_get bodies d) (λ b. s b w) j in Started.called e named (ok b w held)) h
+  starts_by_right t right s ok n w Empty e h = grind (arith, Started.nothing)
+  starts_by_right t right s ok n w (Event i) e h = grind (arith, after_true i no_more w, no_more_true, Started.nothing, Started.event)
+  starts_by_right t right s ok n w (Seq l r) e h = grind (arith, ok l w, ok r, right l (s r) w, Started.first, Started.second)
+  starts_by_right t right s ok n w (Choice l r) e h = grind (arith, ok l w, ok r w, Started.left, Started.right)
+  starts_by_right t right s ok n w (Frame p m) e h = grind (arith, ok m, after_true (opening p) (s m) w, no_more_true, Started.nothing, Started.opened)
+  starts_by_right t right s ok n w (Call d) e h = grind (arith, ok, holds_of_true (slice_get bodies d) (λ b. s b w), no_more_true, Started.nothing, Started.called)
 
   -- what the test finds to be started is
   pub starts_right : (turns : ℕ) → StartsRight (starts turns)
