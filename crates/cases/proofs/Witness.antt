@@ -22,8 +22,7 @@ no_more [] = true
 no_more (x ∷ w) = false
 
 no_more_true : (w : List ℕ) → no_more w ≡ true → w ≡ []
-no_more_true [] h = refl
-no_more_true (x ∷ w) h = absurd (false≢true h)
+no_more_true w h = grind arith
 
 -- there is a value, and the test holds of it
 abbrev pub holds_of : {X : Type 0} → Option X → (X → Bool) → Bool
