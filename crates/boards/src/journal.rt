@@ -4,8 +4,8 @@ ghost use Rattle.boards.specs.Meanings.{state_after};
 
 use crate::board::Board;
 
-// Journal and count come apart, since a journal that is handed in has free places behind the events.
 // The state of policy p after the first `count` events of the journal; none where the policy or one of these events is not there.
+// Journal and count come apart, since a journal that is handed in has free places behind the events.
 pub fn state_after<B: Board>(board: &B, p: u8, journal: &[u8], count: usize) -> Option<u8>
     ensures { result ≡ (if nat_le count (length journal.now) then state_after (B.Board.meaning board.now) p (take count journal.now) else None) }
 {

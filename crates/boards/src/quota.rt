@@ -32,7 +32,7 @@ impl Quota {
     fn next(&self, q: u8, e: u8) -> u8
         ensures { result ≡ (counter self.now.k self.now.marked).next q e }
     {
-        if self.marked[e as usize] {
+        if self.marked[usize::from(e)] {
             q.saturating_add(1).min(self.k + 1)
         } else {
             q

@@ -3,13 +3,13 @@ ghost use Rattle.std.specs.Prelude.{◌≡◌, if◌then◌else◌, Some, None, 
 ghost use Rattle.records.specs.Faults.{answer, refusal};
 ghost use Rattle.records.specs.declared.fault.Layer.TheVariants as layer;
 
-use crate::making::{BAD, FIVE, POLICY, SEVEN, policy};
+use crate::making::{BAD, FIVE, POLICY, SEVEN, TABLE, policy};
 use boards::board::Board;
 use boards::joined::Joined;
 use boards::journal::state_after;
 use boards::quota::Quota;
 use boards::translated::Translated;
-use records::fault::Fault;
+use records::fault::{Fault, Refusal, refused};
 use records::record::PolicyRecord;
 use std::array;
 use std::test::Fail;
@@ -48,10 +48,7 @@ fn quota_answers(rt: HostRuntime) -> Result<(), Fail> {
 fn quota_limits(rt: HostRuntime) -> Result<(), Fail> {
     assert_eq!(rt; nines(0)?.step(0, 0, 9), Some((1, true)));
     assert_eq!(rt; nines(6)?.states(0), Some(8));
-    assert_eq!(rt;
-        nines(7).map_err(|fault| (fault.number(), fault.place())),
-        Err((3, 0))
-    );
+    assert_eq!(rt; refused(&nines(7)), Some(Refusal::new(3, TABLE, 0)));
     Ok(())
 }
 

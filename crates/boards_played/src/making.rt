@@ -1,12 +1,9 @@
 // Makings of table boards: what they answer, and each refusal with its place.
-ghost use Rattle.std.specs.Prelude.{◌≡◌, Some};
-ghost use Rattle.std.specs.Option.{option_map};
-ghost use Rattle.records.specs.Faults.{answer};
-ghost use Rattle.records.specs.declared.fault.Layer.TheVariants as layer;
+ghost use Rattle.std.specs.Prelude.{◌≡◌};
 
 use boards::board::Board;
 use boards::journal::state_after;
-use records::fault::{Layer, refused};
+use records::fault::{Layer, Refusal, refused};
 use records::record::{BadRecord, EdgeRecord, PolicyRecord};
 use std::array;
 use std::test::Fail;
@@ -65,7 +62,7 @@ fn edge(p: u64, from: u64, event: u64, to: u64) -> EdgeRecord
     }
 }
 
-const TABLE: Layer = Layer::Table;
+pub(crate) const TABLE: Layer = Layer::Table;
 
 #[test]
 fn answers(rt: HostRuntime) -> Result<(), Fail> {
@@ -106,7 +103,7 @@ fn eight_policies(rt: HostRuntime) -> Result<(), Fail> {
     let edges = [edge(3, 7, 255, 1), edge(7, 7, 0, 2)];
     assert_eq!(rt;
         refused(&TableBoard::from_records(rt.alloc(), &policies, &[], &[])),
-        Some((3, TABLE, 8))
+        Some(Refusal::new(3, TABLE, 8))
     );
     let board = TableBoard::from_records(rt.alloc(), &policies[0..8], &[bad(7, 2)], &edges)?;
     assert_eq!(rt; board.count(), 8);
@@ -129,11 +126,11 @@ fn no_policies(rt: HostRuntime) -> Result<(), Fail> {
 #[test]
 fn policies_refused(rt: HostRuntime) {
     let cases = [
-        (policy(2, 3, 0), Some((2, TABLE, 1))),
-        (policy(1, 0, 0), Some((3, TABLE, 1))),
-        (policy(1, 9, 0), Some((3, TABLE, 1))),
-        (policy(1, 8, 8), Some((3, TABLE, 1))),
-        (policy(1, 3, 3), Some((4, TABLE, 1))),
+        (policy(2, 3, 0), Some(Refusal::new(2, TABLE, 1))),
+        (policy(1, 0, 0), Some(Refusal::new(3, TABLE, 1))),
+        (policy(1, 9, 0), Some(Refusal::new(3, TABLE, 1))),
+        (policy(1, 8, 8), Some(Refusal::new(3, TABLE, 1))),
+        (policy(1, 3, 3), Some(Refusal::new(4, TABLE, 1))),
         (policy(1, 8, 7), None),
     ];
     for (second, answer) in cases {
@@ -147,12 +144,12 @@ fn policies_refused(rt: HostRuntime) {
 #[test]
 fn bads_refused(rt: HostRuntime) {
     let cases = [
-        (bad(0, 1), Some((2, TABLE, 1))),
-        (bad(0, 0), Some((2, TABLE, 1))),
-        (bad(8, 0), Some((3, TABLE, 1))),
-        (bad(0, 8), Some((3, TABLE, 1))),
-        (bad(1, 0), Some((4, TABLE, 1))),
-        (bad(0, 3), Some((4, TABLE, 1))),
+        (bad(0, 1), Some(Refusal::new(2, TABLE, 1))),
+        (bad(0, 0), Some(Refusal::new(2, TABLE, 1))),
+        (bad(8, 0), Some(Refusal::new(3, TABLE, 1))),
+        (bad(0, 8), Some(Refusal::new(3, TABLE, 1))),
+        (bad(1, 0), Some(Refusal::new(4, TABLE, 1))),
+        (bad(0, 3), Some(Refusal::new(4, TABLE, 1))),
         (bad(0, 2), None),
     ];
     for (second, answer) in cases {
@@ -166,15 +163,15 @@ fn bads_refused(rt: HostRuntime) {
 #[test]
 fn edges_refused(rt: HostRuntime) {
     let cases = [
-        (edge(0, 0, 5, 2), Some((2, TABLE, 1))),
-        (edge(0, 0, 4, 2), Some((2, TABLE, 1))),
-        (edge(8, 0, 5, 2), Some((3, TABLE, 1))),
-        (edge(0, 8, 5, 2), Some((3, TABLE, 1))),
-        (edge(0, 0, 256, 2), Some((3, TABLE, 1))),
-        (edge(0, 1, 5, 8), Some((3, TABLE, 1))),
-        (edge(1, 0, 5, 2), Some((4, TABLE, 1))),
-        (edge(0, 3, 5, 2), Some((4, TABLE, 1))),
-        (edge(0, 1, 5, 3), Some((4, TABLE, 1))),
+        (edge(0, 0, 5, 2), Some(Refusal::new(2, TABLE, 1))),
+        (edge(0, 0, 4, 2), Some(Refusal::new(2, TABLE, 1))),
+        (edge(8, 0, 5, 2), Some(Refusal::new(3, TABLE, 1))),
+        (edge(0, 8, 5, 2), Some(Refusal::new(3, TABLE, 1))),
+        (edge(0, 0, 256, 2), Some(Refusal::new(3, TABLE, 1))),
+        (edge(0, 1, 5, 8), Some(Refusal::new(3, TABLE, 1))),
+        (edge(1, 0, 5, 2), Some(Refusal::new(4, TABLE, 1))),
+        (edge(0, 3, 5, 2), Some(Refusal::new(4, TABLE, 1))),
+        (edge(0, 1, 5, 3), Some(Refusal::new(4, TABLE, 1))),
         (edge(0, 0, 6, 2), None),
     ];
     for (second, answer) in cases {
@@ -196,7 +193,7 @@ fn many_edges(rt: HostRuntime) -> Result<(), Fail> {
     ));
     assert_eq!(rt;
         refused(&TableBoard::from_records(rt.alloc(), &[POLICY], &[], &edges)),
-        Some((3, TABLE, 512))
+        Some(Refusal::new(3, TABLE, 512))
     );
     let board = TableBoard::from_records(rt.alloc(), &[POLICY], &[], &edges[0..512])?;
     assert_eq!(rt; board.step(0, 0, 0), Some((1, false)));
@@ -212,14 +209,14 @@ fn first_break(rt: HostRuntime) {
     let edges = [edge(0, 0, 256, 0)];
     assert_eq!(rt;
         refused(&TableBoard::from_records(rt.alloc(), &[policy(0, 3, 3)], &bads, &edges)),
-        Some((4, TABLE, 0))
+        Some(Refusal::new(4, TABLE, 0))
     );
     assert_eq!(rt;
         refused(&TableBoard::from_records(rt.alloc(), &[POLICY], &bads, &edges)),
-        Some((4, TABLE, 0))
+        Some(Refusal::new(4, TABLE, 0))
     );
     assert_eq!(rt;
         refused(&TableBoard::from_records(rt.alloc(), &[POLICY], &[BAD], &edges)),
-        Some((3, TABLE, 0))
+        Some(Refusal::new(3, TABLE, 0))
     );
 }

@@ -3,7 +3,7 @@ use Rattle.std.proofs.Common.{◌≡◌, List, Result, arith}
 use Rattle.records.specs.declared.fault.Fault.{Fault}
 use Rattle.records.specs.declared.record.NodeRecord.{NodeRecord}
 use Rattle.records.specs.declared.record.DefRecord.{DefRecord}
-use Rattle.records.specs.Faults.{Refusal}
+use Rattle.records.specs.declared.fault.Refusal.{Refusal}
 use Rattle.records.proofs.Breaks.{apart, one_call, same_break}
 use Rattle.records.proofs.Makings as making
 use Rattle.records.specs.Makings.Makes.{made, refused, no_memory}

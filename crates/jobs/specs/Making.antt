@@ -8,7 +8,8 @@ use Rattle.records.specs.declared.record.Line.TheVariants as line
 use Rattle.records.specs.declared.record.NodeRecord.{NodeRecord}
 use Rattle.records.specs.declared.record.DefRecord.{DefRecord}
 use Rattle.records.specs.Breaks.{FirstBreak, Keep}
-use Rattle.records.specs.Faults.{Refusal, refusal}
+use Rattle.records.specs.declared.fault.Refusal.{Refusal}
+use Rattle.records.specs.Faults.{refusal}
 use Rattle.records.specs.Makings as making
 use Rattle.records.specs.Rules.{AllCalled, FirstUncalled, Records, breach, node_at, parts_in_limits}
 use Rattle.jobs.specs.declared.node.Node.{Node}
@@ -103,4 +104,4 @@ Makes nodes defs = making.Makes (Kept nodes defs) (Broken nodes defs) (Holds nod
 
 -- a break has no other answer than its refusal, and records that keep all rules are refused for want of memory only
 abbrev pub Only : List NodeRecord → List DefRecord → Result Table Fault → Type 0
-Only nodes defs = making.Only (Kept nodes defs) (Broken nodes defs) (Holds nodes defs)
+Only nodes defs = making.Only (Kept nodes defs) (Broken nodes defs)

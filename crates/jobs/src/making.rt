@@ -1,8 +1,8 @@
 // Makes a table from the records of its nodes and definitions.
 ghost use Rattle.std.specs.Prelude.{◌≡◌, true, map, length, IfOk, MatchResult};
 ghost use Rattle.records.specs.Faults.{told};
-ghost use Rattle.records.specs.Rules.{AllCalled, held, parts_in_limits};
-ghost use Rattle.jobs.specs.Making.{BadCall, BadDef, BadNode, BodiesFit, Broken, DefsKeep, Holds, Kept, Makes, NodesFit, NodesKeep, Only, alone, body_of, node_of};
+ghost use Rattle.records.specs.Rules.{AllCalled, parts_in_limits};
+ghost use Rattle.jobs.specs.Making.{BadCall, BodiesFit, Broken, Kept, Makes, NodesFit, Only, body_of, node_of};
 
 use crate::node::Node;
 use crate::table::Table;
@@ -25,9 +25,9 @@ fn check_calls(nodes: &[NodeRecord], defs: usize) -> Result<(), Fault>
 fn check_records(nodes: &[NodeRecord], defs: &[DefRecord]) -> Result<(), Fault>
     ensures { MatchResult result (λ _. Kept nodes.now defs.now) (λ fault. Broken nodes.now defs.now (told fault)) }
 {
-    let none = Sofar::default();
-    check_each(none, nodes)?;
-    check_each(Sofar { nodes, ..none }, defs)?;
+    let empty = Sofar::default();
+    check_each(empty, nodes)?;
+    check_each(Sofar { nodes, ..empty }, defs)?;
     check_calls(nodes, defs.len())
 }
 

@@ -6,7 +6,7 @@ ghost use Rattle.jobs.specs.Placed.{PlacedBodies, PlacedNodes};
 use crate::node::Node;
 
 // The nodes, and the node that each definition has as its body.
-#[derive(Drop)]
+#[derive(Drop, Debug, PartialEq, Eq)]
 pub struct Table {
     pub(crate) nodes: Vec<Node>,
     pub(crate) bodies: Vec<u8>,

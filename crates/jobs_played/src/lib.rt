@@ -1,16 +1,13 @@
 // Plays some makings of tables.
 #![tactic(auto)]
 
-ghost use Rattle.std.specs.Prelude.{◌≡◌, Some};
-ghost use Rattle.std.specs.Option.{option_map};
-ghost use Rattle.records.specs.declared.fault.Layer.TheVariants as layer;
-ghost use Rattle.records.specs.Faults.{answer};
+ghost use Rattle.std.specs.Prelude.{◌≡◌};
 
 #[cfg(test)]
 mod tests {
     use jobs::node::Node;
     use jobs::table::Table;
-    use records::fault::{Layer, refused};
+    use records::fault::{Layer, Refusal, refused};
     use records::record::{DefRecord, Kind, NodeRecord};
     use std::array;
     use std::test::Fail;
@@ -87,11 +84,11 @@ mod tests {
         ];
         assert_eq!(rt;
             refused(&Table::from_records(rt.alloc(), &nodes, &[])),
-            Some((2, TABLE, 2))
+            Some(Refusal::new(2, TABLE, 2))
         );
         assert_eq!(rt;
             refused(&Table::from_records(rt.alloc(), &[EMPTY], &[JOB, JOB])),
-            Some((2, TABLE, 1))
+            Some(Refusal::new(2, TABLE, 1))
         );
     }
 
@@ -99,23 +96,23 @@ mod tests {
     fn past_a_limit(rt: HostRuntime) {
         assert_eq!(rt;
             refused(&Table::from_records(rt.alloc(), &[EMPTY, node(1, Kind::Event, 256, 0)], &[])),
-            Some((3, TABLE, 1))
+            Some(Refusal::new(3, TABLE, 1))
         );
         assert_eq!(rt;
             refused(&Table::from_records(rt.alloc(), &[EMPTY, node(1, Kind::Choice, 0, 128)], &[])),
-            Some((3, TABLE, 1))
+            Some(Refusal::new(3, TABLE, 1))
         );
         assert_eq!(rt;
             refused(&Table::from_records(rt.alloc(), &[EMPTY, node(1, Kind::Frame, 8, 0)], &[])),
-            Some((3, TABLE, 1))
+            Some(Refusal::new(3, TABLE, 1))
         );
         assert_eq!(rt;
             refused(&Table::from_records(rt.alloc(), &[node(0, Kind::Call, 32, 0)], &[])),
-            Some((3, TABLE, 0))
+            Some(Refusal::new(3, TABLE, 0))
         );
         assert_eq!(rt;
             refused(&Table::from_records(rt.alloc(), &[EMPTY], &[DefRecord { def: 0, node: 128 }])),
-            Some((3, TABLE, 0))
+            Some(Refusal::new(3, TABLE, 0))
         );
     }
 
@@ -128,11 +125,11 @@ mod tests {
         });
         assert_eq!(rt;
             refused(&Table::from_records(rt.alloc(), &nodes, &[])),
-            Some((3, TABLE, 128))
+            Some(Refusal::new(3, TABLE, 128))
         );
         assert_eq!(rt;
             refused(&Table::from_records(rt.alloc(), &nodes[0..128], &defs)),
-            Some((3, TABLE, 32))
+            Some(Refusal::new(3, TABLE, 32))
         );
         assert_eq!(rt;
             refused(&Table::from_records(rt.alloc(), &nodes[0..128], &defs[0..32])),
@@ -144,7 +141,7 @@ mod tests {
     fn not_there(rt: HostRuntime) {
         assert_eq!(rt;
             refused(&Table::from_records(rt.alloc(), &[EVENT, node(1, Kind::Seq, 0, 1)], &[])),
-            Some((4, TABLE, 1))
+            Some(Refusal::new(4, TABLE, 1))
         );
         assert_eq!(rt;
             refused(&Table::from_records(
@@ -152,11 +149,11 @@ mod tests {
                 &[EVENT],
                 &[JOB, DefRecord { def: 1, node: 1 }],
             )),
-            Some((4, TABLE, 1))
+            Some(Refusal::new(4, TABLE, 1))
         );
         assert_eq!(rt;
             refused(&Table::from_records(rt.alloc(), &[node(0, Kind::Call, 1, 0)], &[JOB])),
-            Some((4, TABLE, 0))
+            Some(Refusal::new(4, TABLE, 0))
         );
         let calls = [
             EMPTY,
@@ -166,7 +163,7 @@ mod tests {
         ];
         assert_eq!(rt;
             refused(&Table::from_records(rt.alloc(), &calls, &[JOB])),
-            Some((4, TABLE, 2))
+            Some(Refusal::new(4, TABLE, 2))
         );
     }
 
@@ -176,15 +173,15 @@ mod tests {
         let calls = [node(0, Kind::Call, 9, 0), node(1, Kind::Event, 256, 0)];
         assert_eq!(rt;
             refused(&Table::from_records(rt.alloc(), &calls, &[JOB, JOB])),
-            Some((3, TABLE, 1))
+            Some(Refusal::new(3, TABLE, 1))
         );
         assert_eq!(rt;
             refused(&Table::from_records(rt.alloc(), &calls[0..1], &[JOB, JOB])),
-            Some((2, TABLE, 1))
+            Some(Refusal::new(2, TABLE, 1))
         );
         assert_eq!(rt;
             refused(&Table::from_records(rt.alloc(), &calls[0..1], &[JOB])),
-            Some((4, TABLE, 0))
+            Some(Refusal::new(4, TABLE, 0))
         );
     }
 }

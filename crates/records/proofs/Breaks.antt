@@ -2,7 +2,7 @@
 use Rattle.std.proofs.Common.{◌≡◌, ℕ, List, Option, arith}
 use Rattle.std.proofs.lemmas.Bool.{cases_order}
 use Rattle.records.specs.declared.record.NodeRecord.{NodeRecord}
-use Rattle.records.specs.Faults.{Refusal}
+use Rattle.records.specs.declared.fault.Refusal.{Refusal}
 use Rattle.records.specs.Breaks.{FirstBreak, Keep}
 use Rattle.records.specs.Rules.{FirstUncalled}
 

@@ -1,7 +1,8 @@
 -- The first of some records that breaks a rule. Assumes nothing.
 use Rattle.std.specs.Prelude.{◌≡◌, ℕ, ◌<◌, List, take, Some, None, Option, Result, MatchResult, slice_index_or}
 use Rattle.records.specs.declared.fault.Layer.TheVariants as layer
-use Rattle.records.specs.Faults.{Refusal, refusal, told}
+use Rattle.records.specs.declared.fault.Refusal.{Refusal}
+use Rattle.records.specs.Faults.{refusal, told}
 use Rattle.records.specs.declared.record.Line.{Line}
 use Rattle.records.specs.declared.fault.Fault.{Fault}
 use Rattle.records.specs.Rules.{Records, breach}

@@ -1,15 +1,11 @@
 -- What each fault says: its number, its layer and its place. Assumes nothing.
 use Rattle.std.specs.Prelude.{ℕ, List, ◌++◌, Some, None, Ok, Err, codes, Option, Result}
 use Rattle.records.specs.Written.{written}
+use Rattle.records.specs.declared.fault.Refusal.{Refusal}
 use Rattle.records.specs.declared.fault.Layer.{Layer}
 use Rattle.records.specs.declared.fault.Layer.TheVariants.{Line, Table, Station}
 use Rattle.records.specs.declared.fault.Fault.{Fault}
 use Rattle.records.specs.declared.fault.Fault.TheVariants.{Form, Order, Limit, Missing, NoRoom, NoMemory, NoJob, StrayPolicy, ShortList, Running, Idle, Offends, JournalFull, StackFull, Mismatch}
-
-pub record Refusal : Type 0 where
-  pub number : ℕ
-  pub layer : Layer
-  pub place : ℕ
 
 abbrev pub refusal : ℕ → Layer → ℕ → Refusal
 refusal number layer place = record { number = number; layer = layer; place = place }

@@ -1,6 +1,5 @@
 -- The letters of kinds. Assumes nothing.
-use Rattle.std.specs.Prelude.{◌≡◌, ℕ, List, ◌++◌, codes, ◌≢◌, Result, MatchResult}
-use Rattle.records.specs.Written.{written}
+use Rattle.std.specs.Prelude.{◌≡◌, ℕ, ◌≢◌, Result, MatchResult}
 use Rattle.records.specs.declared.kind.UnknownKind.{UnknownKind}
 use Rattle.records.specs.declared.record.Kind.{Kind}
 use Rattle.records.specs.declared.record.Kind.TheVariants.{Empty, Event, Seq, Choice, Frame, Call}
@@ -20,7 +19,3 @@ NoLetter letter = (kind : Kind) → letter_of kind ≢ letter
 -- the kind that has this letter, or an error with a letter that no kind has
 abbrev pub ReadsKind : ℕ → Result Kind UnknownKind → Type 0
 ReadsKind letter r = MatchResult r (λ kind. letter_of kind ≡ letter) (λ e. (e.0 ≡ letter) × NoLetter letter)
-
--- a letter that no kind has, as it is printed
-abbrev pub unknown_text : ℕ → List ℕ
-unknown_text letter = codes "no kind has letter " ++ written letter

@@ -2,7 +2,7 @@
 ghost use Rattle.records.specs.Faults.{layer_word, refusal_text, told};
 ghost use Rattle.std.specs.Prelude.{Some};
 
-use crate::fault::{Fault, Layer};
+use crate::fault::{Fault, Layer, Refusal};
 use std::error::Error;
 use std::fmt;
 
@@ -24,7 +24,11 @@ impl fmt::Display for Fault {
 
     #[tactic(auto, using(crate::proofs::Numbers::written_is))]
     fn fmt<W: fmt::Write>(&self, f: &mut fmt::Formatter<W>) -> fmt::Result {
-        let (number, layer, place) = self.told();
+        let Refusal {
+            number,
+            layer,
+            place,
+        } = self.refusal();
         write!(f, "refused={number} layer={layer} place={place}")
     }
 }

@@ -1,8 +1,7 @@
 // Why a call refuses.
 ghost use Rattle.std.specs.Prelude.{◌≡◌};
-ghost use Rattle.std.specs.Option.{option_map};
 ghost use Rattle.records.specs.declared.fault.Fault.TheVariants.{NoMemory};
-ghost use Rattle.records.specs.Faults.{answer, told};
+ghost use Rattle.records.specs.Faults.{answer, refusal, told};
 
 use std::alloc::AllocError;
 
@@ -49,46 +48,66 @@ pub enum Fault {
     Mismatch,
 }
 
+// What is told of a fault.
+#[derive(Clone, Copy, PartialEq, Eq, Debug)]
+pub struct Refusal {
+    pub number: u8,
+    pub layer: Layer,
+    pub place: usize,
+}
+
+impl Refusal {
+    pub fn new(number: u8, layer: Layer, place: usize) -> Refusal
+        ensures { result ≡ refusal number layer place }
+    {
+        Refusal {
+            number,
+            layer,
+            place,
+        }
+    }
+}
+
 impl Fault {
-    // Its number, its layer and its place.
-    pub fn told(self) -> (u8, Layer, usize)
-        ensures { result ≡ ((told self).number, (told self).layer, (told self).place) }
+    // What is told of this fault.
+    pub fn refusal(self) -> Refusal
+        ensures { result ≡ told self }
     {
         match self {
-            Fault::Form(place) => (1, Layer::Line, place),
-            Fault::Order(place) => (2, Layer::Table, place),
-            Fault::Limit(place) => (3, Layer::Table, place),
-            Fault::Missing(place) => (4, Layer::Table, place),
-            Fault::NoJob(job) => (5, Layer::Station, job),
-            Fault::StrayPolicy(node) => (6, Layer::Station, node),
-            Fault::NoRoom(place) => (7, Layer::Table, place),
-            Fault::ShortList => (7, Layer::Station, 0),
-            Fault::Running => (20, Layer::Station, 0),
-            Fault::Idle => (21, Layer::Station, 0),
-            Fault::Offends(policy) => (22, Layer::Station, policy),
-            Fault::JournalFull => (23, Layer::Station, 0),
-            Fault::StackFull => (24, Layer::Station, 0),
-            Fault::Mismatch => (25, Layer::Station, 0),
-            Fault::NoMemory => (99, Layer::Table, 0),
+            Fault::Form(place) => Refusal::new(1, Layer::Line, place),
+            Fault::Order(place) => Refusal::new(2, Layer::Table, place),
+            Fault::Limit(place) => Refusal::new(3, Layer::Table, place),
+            Fault::Missing(place) => Refusal::new(4, Layer::Table, place),
+            Fault::NoJob(job) => Refusal::new(5, Layer::Station, job),
+            Fault::StrayPolicy(node) => Refusal::new(6, Layer::Station, node),
+            Fault::NoRoom(place) => Refusal::new(7, Layer::Table, place),
+            Fault::ShortList => Refusal::new(7, Layer::Station, 0),
+            Fault::Running => Refusal::new(20, Layer::Station, 0),
+            Fault::Idle => Refusal::new(21, Layer::Station, 0),
+            Fault::Offends(policy) => Refusal::new(22, Layer::Station, policy),
+            Fault::JournalFull => Refusal::new(23, Layer::Station, 0),
+            Fault::StackFull => Refusal::new(24, Layer::Station, 0),
+            Fault::Mismatch => Refusal::new(25, Layer::Station, 0),
+            Fault::NoMemory => Refusal::new(99, Layer::Table, 0),
         }
     }
 
     pub fn number(self) -> u8
         ensures { result ≡ (told self).number }
     {
-        self.told().0
+        self.refusal().number
     }
 
     pub fn layer(self) -> Layer
         ensures { result ≡ (told self).layer }
     {
-        self.told().1
+        self.refusal().layer
     }
 
     pub fn place(self) -> usize
         ensures { result ≡ (told self).place }
     {
-        self.told().2
+        self.refusal().place
     }
 }
 
@@ -101,9 +120,9 @@ impl From<AllocError> for Fault {
     }
 }
 
-// The number, the layer and the place of a refusal, if the call was refused.
-pub fn refused<T>(call: &Result<T, Fault>) -> Option<(u8, Layer, usize)>
-    ensures { result ≡ option_map (λ t. (t.number, t.layer, t.place)) (answer call.now) }
+// What is told of a call's answer: nothing where the call did not refuse.
+pub fn refused<T>(call: &Result<T, Fault>) -> Option<Refusal>
+    ensures { result ≡ answer call.now }
 {
-    call.as_ref().err().map(|fault| fault.told())
+    call.as_ref().err().map(|fault| fault.refusal())
 }

@@ -1,10 +1,7 @@
 // The letters of kinds.
-ghost use Rattle.std.specs.Prelude.{Some};
-ghost use Rattle.records.specs.Kinds.{ReadsKind, unknown_text};
+ghost use Rattle.records.specs.Kinds.{ReadsKind};
 
 use crate::record::Kind;
-use std::error::Error;
-use std::fmt;
 
 // A letter that no kind has.
 #[derive(Clone, Copy, PartialEq, Eq, Debug)]
@@ -27,16 +24,3 @@ impl TryFrom<u8> for Kind {
         }
     }
 }
-
-// As `no kind has letter 120`.
-impl fmt::Display for UnknownKind {
-    ghost output = { λ letter. Some (unknown_text letter.0) };
-
-    #[tactic(auto, using(crate::proofs::Numbers::written_is))]
-    fn fmt<W: fmt::Write>(&self, f: &mut fmt::Formatter<W>) -> fmt::Result {
-        let letter = self.0;
-        write!(f, "no kind has letter {letter}")
-    }
-}
-
-impl Error for UnknownKind {}

@@ -21,7 +21,7 @@ pub struct PolicyRecord {
 }
 
 // bad=p state=q
-#[derive(Clone, Copy, PartialEq, Eq, Debug, Default)]
+#[derive(Clone, Copy, PartialEq, Eq, PartialOrd, Ord, Debug, Default)]
 pub struct BadRecord {
     pub policy: u64,
     pub state: u64,
@@ -79,7 +79,7 @@ pub enum Line {
 }
 
 // The records of the lines so far.
-#[derive(Clone, Copy, Debug, Default)]
+#[derive(Clone, Copy, PartialEq, Eq, Debug, Default)]
 pub struct Sofar<'a> {
     pub policies: &'a [PolicyRecord],
     pub bads: &'a [BadRecord],

@@ -10,7 +10,7 @@ use crate::record::{
     BadRecord, EdgeRecord, Kind, Line, MarkRecord, NodeRecord, Sofar, TariffRecord,
 };
 
-// Records that come in the order of some of their fields; a derived order would compare `to` and `cost` too.
+// Records that come in the order of some of their fields: a derived order of edges and tariffs would compare `to` and `cost` too.
 trait Rising: Record {
     ghost earlier: { Self → Self → Bool };
 
@@ -22,7 +22,7 @@ impl Rising for BadRecord {
     ghost earlier = { earlier_bad };
 
     fn is_earlier(self, other: BadRecord) -> bool {
-        (self.policy, self.state) < (other.policy, other.state)
+        self < other
     }
 }
 
@@ -99,7 +99,7 @@ impl Sofar<'_> {
             .is_some_and(|record| state < record.states)
     }
 
-    fn has_in_order(self, line: Line) -> bool
+    fn keeps_order(self, line: Line) -> bool
         ensures { result ≡ in_order (held self.entry) line }
     {
         let no_tariffs = self.tariffs.is_empty();
@@ -121,7 +121,7 @@ impl Sofar<'_> {
         }
     }
 
-    fn has_in_limits(self, line: Line) -> bool
+    fn keeps_limits(self, line: Line) -> bool
         ensures { result ≡ in_limits (held self.entry) line }
     {
         match line {
@@ -140,7 +140,7 @@ impl Sofar<'_> {
         }
     }
 
-    fn has_named(self, line: Line) -> bool
+    fn names_are_there(self, line: Line) -> bool
         ensures { result ≡ is_there (held self.entry) line }
     {
         match line {
@@ -160,19 +160,20 @@ impl Sofar<'_> {
 pub fn check(sofar: Sofar, line: Line, place: usize) -> Result<(), Fault>
     ensures { answer result ≡ at_place place (breach (held sofar.entry) line) }
 {
-    if !sofar.has_in_order(line) {
+    if !sofar.keeps_order(line) {
         return Err(Fault::Order(place));
     }
-    if !sofar.has_in_limits(line) {
+    if !sofar.keeps_limits(line) {
         return Err(Fault::Limit(place));
     }
-    if !sofar.has_named(line) {
+    if !sofar.names_are_there(line) {
         return Err(Fault::Missing(place));
     }
     Ok(())
 }
 
-// Tests each of these records after the records so far and those of its kind that stand before it; its place is its number.
+// Tests each of these records after those before it, which stand among the records so far in place of those of their kind. Its place is
+// its number.
 pub fn check_each<'a, R: Record>(sofar: Sofar<'a>, these: &'a [R]) -> Result<(), Fault>
     ensures { Tested (breach_at R.line R.among R.blank (held sofar.entry) these.now) (length these.now) result }
 {

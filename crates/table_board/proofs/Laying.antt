@@ -19,7 +19,7 @@ module _ (a : Automaton) (start n : ℕ) (rows : List Row) (starts : start ≡ a
     next = λ q e there low. grind (arith, all.each q);
   }
 
-  -- past its last event a row leads to state 0
+  -- past its last event a row leaves the state
   pub rows_closed : Closed a → Closed (automaton start rows)
   rows_closed closed = record {
     some = omega (arith, all.many, closed.some);

@@ -1,5 +1,5 @@
 -- What the parts of a board say that is built from records. Assumes nothing.
-use Rattle.std.specs.Prelude.{◌≡◌, ℕ, ◌<◌, List, length, slice_index}
+use Rattle.std.specs.Prelude.{◌≡◌, ℕ, ◌<◌, List, length, slice_index_or}
 use Rattle.histories.specs.Automata.{Automaton}
 use Rattle.boards.specs.Meanings.{Meaning}
 use Rattle.boards.specs.Tables.{tabled}
@@ -15,7 +15,7 @@ meant source = tabled source.policies.now source.bads.now source.edges.now
 pub record IsRowOf (a : Automaton) (q : ℕ) (row : Row) : Type 0 where
   pub whole : length row.next ≡ 256
   pub offends : row.offends ≡ a.offends q
-  pub next : (e : ℕ) → e < 256 → slice_index row.next e ≡ a.next q e
+  pub next : (e : ℕ) → e < 256 → slice_index_or row.next e q ≡ a.next q e
 
 -- a row for each of the first n states
 pub record AreRowsOf (a : Automaton) (n : ℕ) (rows : List Row) : Type 0 where

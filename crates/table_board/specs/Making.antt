@@ -6,7 +6,7 @@ use Rattle.records.specs.declared.record.PolicyRecord.{PolicyRecord}
 use Rattle.records.specs.declared.record.BadRecord.{BadRecord}
 use Rattle.records.specs.declared.record.EdgeRecord.{EdgeRecord}
 use Rattle.records.specs.Breaks.{FirstBreak, Keep}
-use Rattle.records.specs.Faults.{Refusal}
+use Rattle.records.specs.declared.fault.Refusal.{Refusal}
 use Rattle.records.specs.Makings as making
 use Rattle.records.specs.Rules.{Records, breach}
 use Rattle.boards.specs.Meanings.{Meaning, Same}
@@ -57,7 +57,7 @@ module _ (policies : List PolicyRecord) (bads : List BadRecord) (edges : List Ed
 
   -- a break has no other answer than its refusal, and records that keep all rules are refused for want of memory only
   abbrev pub Only : Result TableBoard Fault → Type 0
-  Only = making.Only Kept Broken (λ (board : TableBoard). Same (meaning_of board) (tabled policies bads edges))
+  Only = making.Only Kept Broken
 
 -- records that keep the rules have one edge at most for a policy, a state and an event: each edge record leads where it says
 abbrev pub EdgesAreObeyed : Type 0

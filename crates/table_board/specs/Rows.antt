@@ -1,5 +1,5 @@
 -- What the rows of a policy mean. Assumes nothing.
-use Rattle.std.specs.Prelude.{ℕ, false, List, [], length, slice_index, slice_index_or}
+use Rattle.std.specs.Prelude.{ℕ, false, List, [], length, slice_index_or}
 use Rattle.histories.specs.Automata.{Automaton}
 use Rattle.table_board.specs.declared.policy.Row.{Row}
 
@@ -12,5 +12,5 @@ automaton start rows = record {
   states = length rows;
   start = start;
   offends = λ q. (row_at rows q).offends;
-  next = λ q e. slice_index (row_at rows q).next e;
+  next = λ q e. slice_index_or (row_at rows q).next e q;
 }

@@ -14,7 +14,7 @@ use records::rules::check_each;
 use std::alloc::{AllocError, Global};
 
 // Policies, bads and edges that keep the rules.
-#[derive(Clone, Copy)]
+#[derive(Clone, Copy, Debug, PartialEq, Eq)]
 pub(crate) struct Source<'a> {
     policies: &'a [PolicyRecord],
     bads: &'a [BadRecord],
@@ -33,9 +33,9 @@ impl<'a> Source<'a> {
     ) -> Result<Source<'a>, Fault>
         ensures { MatchResult result (λ source. (source.policies.now ≡ policies.now) × (source.bads.now ≡ bads.now) × (source.edges.now ≡ edges.now)) (λ fault. Broken policies.now bads.now edges.now (told fault)) }
     {
-        let none = Sofar::default();
-        check_each(none, policies)?;
-        let behind = Sofar { policies, ..none };
+        let empty = Sofar::default();
+        check_each(empty, policies)?;
+        let behind = Sofar { policies, ..empty };
         check_each(behind, bads)?;
         check_each(Sofar { bads, ..behind }, edges)?;
         Ok(Source {
@@ -81,7 +81,7 @@ impl<'a> Source<'a> {
     }
 
     // The policy of a record.
-    fn policy(&self, heap: Global, given: PolicyRecord) -> Result<Policy, AllocError>
+    fn made_policy(&self, heap: Global, given: PolicyRecord) -> Result<Policy, AllocError>
         requires { Contains self.now.policies.now given }
         ensures { IfOk result (λ policy. SameAutomaton (automaton_of policy) ((meant self.now).automaton given.policy)) }
     {
@@ -91,13 +91,13 @@ impl<'a> Source<'a> {
         })
     }
 
-    // A policy for each record. It is a `for`, since `try_collect` tells how many items it made and not which.
-    pub(crate) fn policies(&self, heap: Global) -> Result<Vec<Policy>, AllocError>
+    // A policy for each record. It is a `for`, since the proof of a chain that may want memory at each item is longer than the loop.
+    pub(crate) fn made_policies(&self, heap: Global) -> Result<Vec<Policy>, AllocError>
         ensures { IfOk result (λ policies. Same (laid_out policies.items) (meant self.now)) }
     {
         let mut made = Vec::new(heap);
         for given in self.policies {
-            made.push(self.policy(heap, *given)?)?;
+            made.push(self.made_policy(heap, *given)?)?;
         }
         Ok(made)
     }

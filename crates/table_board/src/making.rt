@@ -21,7 +21,7 @@ impl TableBoard {
     {
         let source = Source::checked(policies, bads, edges)?;
         Ok(TableBoard {
-            policies: source.policies(heap)?,
+            policies: source.made_policies(heap)?,
         })
     }
 }

@@ -6,7 +6,7 @@ use crate::policy::{Policy, Row};
 use boards::board::Board;
 
 // A policy for each policy record: at most eight.
-#[derive(Drop)]
+#[derive(Drop, Debug, PartialEq, Eq)]
 pub struct TableBoard {
     pub(crate) policies: Vec<Policy>,
     ghost few: { length policies.items ≤ 8 },

@@ -1,34 +1,19 @@
 // Texts, and the line that is printed of each.
-use std::alloc::Global;
+use std::fmt;
 use std::process::Abort;
 use std::test::Fail;
 use texts::report::report;
 
-// Whether each text is accepted, with these counts.
-fn all_accepted(rt: &impl Abort, heap: Global, cases: &[(&str, &str)]) -> Result<(), Fail> {
-    for (text, counts) in cases {
-        let line = format!(in heap; "accepted {counts}\n")?;
-        assert_eq!(rt;
-            report(heap, text.as_bytes())?.as_str(),
-            line.as_str(),
-            "{}",
-            *text
-        );
-    }
-    Ok(())
-}
-
-// Whether each text gets this refusal, at its place.
-fn all_refused(
-    rt: &impl Abort,
-    heap: Global,
-    refusal: &str,
-    cases: &[(&str, usize)],
+// Whether each text gets a line that begins so, and ends in what stands beside it.
+fn all_answered<P: fmt::Display>(
+    rt: &(impl Abort + Alloc),
+    answer: &str,
+    cases: &[(&str, P)],
 ) -> Result<(), Fail> {
-    for (text, place) in cases {
-        let line = format!(in heap; "{refusal} place={place}\n")?;
+    for (text, end) in cases {
+        let line = format!(in rt.alloc(); "{answer}{end}\n")?;
         assert_eq!(rt;
-            report(heap, text.as_bytes())?.as_str(),
+            report(rt.alloc(), text.as_bytes())?.as_str(),
             line.as_str(),
             "{}",
             *text
@@ -70,7 +55,7 @@ fn accepted(rt: HostRuntime) -> Result<(), Fail> {
             "policies=0 bads=0 edges=0 quota=none marks=0 nodes=0 defs=0 tariffs=2",
         ),
     ];
-    all_accepted(&rt, rt.alloc(), &cases)
+    all_answered(&rt, "accepted ", &cases)
 }
 
 // Number 1: the line is that of no record.
@@ -100,7 +85,7 @@ fn broken_forms(rt: HostRuntime) -> Result<(), Fail> {
         ("node=0 kind=e a=0 b=1\n", 0),
         ("node=0 kind=d a=0 b=1\n", 0),
     ];
-    all_refused(&rt, rt.alloc(), "refused=1 layer=line", &cases)
+    all_answered(&rt, "refused=1 layer=line place=", &cases)
 }
 
 // Number 2: the line's kind is out of order, or a second quota.
@@ -124,7 +109,7 @@ fn kinds_out_of_order(rt: HostRuntime) -> Result<(), Fail> {
         ),
         ("node=0 kind=z a=0 b=0\ntariff=5 cost=1\ndef=0 node=0\n", 38),
     ];
-    all_refused(&rt, rt.alloc(), "refused=2 layer=table", &cases)
+    all_answered(&rt, "refused=2 layer=table place=", &cases)
 }
 
 // Number 2: the line's numbers are out of order.
@@ -157,7 +142,7 @@ fn numbers_out_of_order(rt: HostRuntime) -> Result<(), Fail> {
         ("tariff=5 cost=1\ntariff=5 cost=2\n", 16),
         ("tariff=5 cost=1\ntariff=4 cost=2\n", 16),
     ];
-    all_refused(&rt, rt.alloc(), "refused=2 layer=table", &cases)
+    all_answered(&rt, "refused=2 layer=table place=", &cases)
 }
 
 // Number 3: a number passes its limit.
@@ -199,7 +184,7 @@ fn out_of_limits(rt: HostRuntime) -> Result<(), Fail> {
         ("tariff=5 cost=0\n", 0),
         ("tariff=5 cost=4294967296\n", 0),
     ];
-    all_refused(&rt, rt.alloc(), "refused=3 layer=table", &cases)
+    all_answered(&rt, "refused=3 layer=table place=", &cases)
 }
 
 // Number 4: what is named is not there.
@@ -238,32 +223,29 @@ fn not_there(rt: HostRuntime) -> Result<(), Fail> {
             22,
         ),
     ];
-    all_refused(&rt, rt.alloc(), "refused=4 layer=table", &cases)
+    all_answered(&rt, "refused=4 layer=table place=", &cases)
 }
 
 // A line that breaks several rules gets the first of them.
 #[test]
 fn first_rule(rt: HostRuntime) -> Result<(), Fail> {
-    all_refused(
+    all_answered(
         &rt,
-        rt.alloc(),
-        "refused=2 layer=table",
+        "refused=2 layer=table place=",
         &[("policy=9 states=9 start=9\n", 0)],
     )?;
-    all_refused(
+    all_answered(
         &rt,
-        rt.alloc(),
-        "refused=3 layer=table",
+        "refused=3 layer=table place=",
         &[
             ("policy=0 states=9 start=9\n", 0),
             ("node=0 kind=s a=200 b=0\n", 0),
             ("policy=0 states=3 start=0\nbad=7 state=8\n", 26),
         ],
     )?;
-    all_refused(
+    all_answered(
         &rt,
-        rt.alloc(),
-        "refused=1 layer=line",
+        "refused=1 layer=line place=",
         &[
             ("node=0 kind=z a=1 b=200\n", 0),
             ("node=0 kind=d a=5 b=0\nbad=0\n", 22),

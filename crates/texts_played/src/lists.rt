@@ -1,4 +1,5 @@
 // Lists that are too short, and what a reading leaves in them.
+use records::fault::{Layer, Refusal, refused};
 use records::record::{
     BadRecord, DefRecord, EdgeRecord, Kind, MarkRecord, NodeRecord, PolicyRecord, TariffRecord,
 };
@@ -66,14 +67,10 @@ const TARIFF: TariffRecord = TariffRecord {
     cost: 9,
 };
 
-// The number and the place of the refusal of a reading.
-fn refused(text: &[u8], lists: &mut Lists) -> Option<(u8, usize)> {
-    let fault = read(text, lists).err()?;
-    Some((fault.number(), fault.place()))
-}
+const TABLE: Layer = Layer::Table;
 
 // The refusal of the text for lists of these sizes.
-fn played(sizes: Sizes) -> Option<(u8, usize)> {
+fn played(sizes: Sizes) -> Option<Refusal> {
     let (mut policies, mut bads, mut edges) = ([POLICY; 2], [BAD; 2], [EDGE; 2]);
     let (mut marks, mut nodes, mut defs, mut tariffs) = (
         [MARK; 2],
@@ -90,7 +87,7 @@ fn played(sizes: Sizes) -> Option<(u8, usize)> {
         defs: &mut defs[..sizes.defs.min(2)],
         tariffs: &mut tariffs[..sizes.tariffs.min(2)],
     };
-    refused(TWO.as_bytes(), &mut lists)
+    refused(&read(TWO.as_bytes(), &mut lists))
 }
 
 #[test]
@@ -101,19 +98,34 @@ fn one_too_short(rt: HostRuntime) {
             policies: 1,
             ..ENOUGH
         }),
-        Some((7, 26))
+        Some(Refusal::new(7, TABLE, 26))
     );
-    assert_eq!(rt; played(Sizes { bads: 1, ..ENOUGH }), Some((7, 66)));
-    assert_eq!(rt; played(Sizes { edges: 1, ..ENOUGH }), Some((7, 107)));
-    assert_eq!(rt; played(Sizes { marks: 1, ..ENOUGH }), Some((7, 149)));
-    assert_eq!(rt; played(Sizes { nodes: 1, ..ENOUGH }), Some((7, 178)));
-    assert_eq!(rt; played(Sizes { defs: 1, ..ENOUGH }), Some((7, 213)));
+    assert_eq!(rt;
+        played(Sizes { bads: 1, ..ENOUGH }),
+        Some(Refusal::new(7, TABLE, 66))
+    );
+    assert_eq!(rt;
+        played(Sizes { edges: 1, ..ENOUGH }),
+        Some(Refusal::new(7, TABLE, 107))
+    );
+    assert_eq!(rt;
+        played(Sizes { marks: 1, ..ENOUGH }),
+        Some(Refusal::new(7, TABLE, 149))
+    );
+    assert_eq!(rt;
+        played(Sizes { nodes: 1, ..ENOUGH }),
+        Some(Refusal::new(7, TABLE, 178))
+    );
+    assert_eq!(rt;
+        played(Sizes { defs: 1, ..ENOUGH }),
+        Some(Refusal::new(7, TABLE, 213))
+    );
     assert_eq!(rt;
         played(Sizes {
             tariffs: 1,
             ..ENOUGH
         }),
-        Some((7, 242))
+        Some(Refusal::new(7, TABLE, 242))
     );
 }
 
@@ -130,7 +142,10 @@ fn left_by_a_refusal(rt: HostRuntime) {
         tariffs: &mut [],
     };
     let text = b"policy=0 states=3 start=1\nbad=0 state=2\nbad=0 state=1\n";
-    assert_eq!(rt; refused(text, &mut lists), Some((2, 40)));
+    assert_eq!(rt;
+        refused(&read(text, &mut lists)),
+        Some(Refusal::new(2, TABLE, 40))
+    );
     let policy = PolicyRecord {
         policy: 0,
         states: 3,

@@ -4,8 +4,8 @@ use std::process::Abort;
 use std::test::Fail;
 use texts::report::report;
 
-fn play(rt: &impl Abort, heap: Global, text: &String, line: &str) -> Result<(), Fail> {
-    assert_eq!(rt; report(heap, text.as_bytes())?.as_str(), line);
+fn play(rt: &(impl Abort + Alloc), text: &String, line: &str) -> Result<(), Fail> {
+    assert_eq!(rt; report(rt.alloc(), text.as_bytes())?.as_str(), line);
     Ok(())
 }
 
@@ -22,25 +22,22 @@ fn edges(heap: Global) -> Result<String, Fail> {
 
 // Whether the text is accepted with these counts, and refused for a limit at one line more.
 fn play_limit(
-    rt: &impl Abort,
-    heap: Global,
+    rt: &(impl Abort + Alloc),
     mut text: String,
     counts: &str,
     line: &str,
 ) -> Result<(), Fail> {
     play(
         rt,
-        heap,
         &text,
-        format!(in heap; "accepted {counts}\n")?.as_str(),
+        format!(in rt.alloc(); "accepted {counts}\n")?.as_str(),
     )?;
     let place = text.len();
     text.push_str(line)?;
     play(
         rt,
-        heap,
         &text,
-        format!(in heap; "refused=3 layer=table place={place}\n")?.as_str(),
+        format!(in rt.alloc(); "refused=3 layer=table place={place}\n")?.as_str(),
     )
 }
 
@@ -48,7 +45,6 @@ fn play_limit(
 fn the_513th_edge(rt: HostRuntime) -> Result<(), Fail> {
     play_limit(
         &rt,
-        rt.alloc(),
         edges(rt.alloc())?,
         "policies=1 bads=0 edges=512 quota=none marks=0 nodes=0 defs=0 tariffs=0",
         "edge=0 from=7 event=64 to=7\n",
@@ -71,7 +67,6 @@ fn table(heap: Global, nodes: u8, defs: u8) -> Result<String, Fail> {
 fn the_129th_node(rt: HostRuntime) -> Result<(), Fail> {
     play_limit(
         &rt,
-        rt.alloc(),
         table(rt.alloc(), 128, 0)?,
         "policies=0 bads=0 edges=0 quota=none marks=0 nodes=128 defs=0 tariffs=0",
         "node=128 kind=z a=0 b=0\n",
@@ -82,7 +77,6 @@ fn the_129th_node(rt: HostRuntime) -> Result<(), Fail> {
 fn the_33rd_definition(rt: HostRuntime) -> Result<(), Fail> {
     play_limit(
         &rt,
-        rt.alloc(),
         table(rt.alloc(), 1, 32)?,
         "policies=0 bads=0 edges=0 quota=none marks=0 nodes=1 defs=32 tariffs=0",
         "def=32 node=0\n",
@@ -100,15 +94,9 @@ fn the_65537th_byte(rt: HostRuntime) -> Result<(), Fail> {
     assert_eq!(rt; text.len(), 65536);
     play(
         &rt,
-        rt.alloc(),
         &text,
         format!(in rt.alloc(); "refused=1 layer=line place={place}\n")?.as_str(),
     )?;
     text.push('9')?;
-    play(
-        &rt,
-        rt.alloc(),
-        &text,
-        "refused=3 layer=table place=65536\n",
-    )
+    play(&rt, &text, "refused=3 layer=table place=65536\n")
 }

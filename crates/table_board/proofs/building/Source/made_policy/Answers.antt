@@ -1,7 +1,7 @@
 use Rattle.std.proofs.Common.{arith}
 use Rattle.table_board.proofs.Fits.{each_says}
 use Rattle.table_board.proofs.Laying.{rows_closed, rows_same}
-use Rattle.table_board.proofs.building.Source.policy.Goals as goal
+use Rattle.table_board.proofs.building.Source.made_policy.Goals as goal
 
 pub overflow_cast-result : goal.overflow_cast-result
 overflow_cast-result c = grind (arith, each_says c.args.self.now.kept c.args.given c.requires)
