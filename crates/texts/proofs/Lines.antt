@@ -1,31 +1,17 @@
 -- Lines as they are read. Assumes nothing.
-use Rattle.std.proofs.Common.{◌≡◌, ℕ, ◌+◌, ◌-◌, ◌<◌, ◌≤◌, cond, eqb, List, [], ◌++◌, length, get_or, drop, Some, None, Option, MatchOption, Bor, sym, refl, ap, ◌∙◌, arith, append_assoc}
+use Rattle.std.proofs.Common.{◌≡◌, ℕ, ◌+◌, ◌-◌, ◌<◌, ◌≤◌, List, [], ◌++◌, length, get_or, drop, Some, None, Option, MatchOption, Bor, ap, ◌∙◌, arith, append_assoc}
 use Rattle.std.proofs.lemmas.List.{length-append, length-drop, drop-drop}
 use Rattle.std.proofs.lemmas.List.Prefix.{front_rest}
 use Rattle.records.specs.declared.record.Kind.{Kind}
-use Rattle.records.specs.declared.record.Kind.TheVariants.{Empty, Event, Seq, Choice, Frame, Call}
 use Rattle.records.specs.declared.record.Line.{Line}
 use Rattle.records.specs.declared.record.Line.TheVariants.{Policy, Bad, Edge, Quota, Mark, Node, Def, Tariff}
 use Rattle.records.specs.Kinds.{letter_of}
 use Rattle.texts.specs.Fields.{Reads}
 use Rattle.texts.specs.Lines.{kind_field, Begins, LineAt, line_of, NoneOf, ReadsLine}
 
--- the kind of a letter
-lettered : ℕ → Kind
-lettered n = cond (eqb n 122) Empty (cond (eqb n 101) Event (cond (eqb n 115) Seq (cond (eqb n 99) Choice (cond (eqb n 102) Frame Call))))
-
-back : (kind : Kind) → lettered (letter_of kind) ≡ kind
-unfolding lettered
-back Empty = refl
-back Event = refl
-back Seq = refl
-back Choice = refl
-back Frame = refl
-back Call = refl
-
 -- a letter is that of one kind
 pub same_letter : (j k : Kind) → letter_of j ≡ letter_of k → j ≡ k
-same_letter j k e = sym (back j) ∙ ap lettered e ∙ back k
+same_letter j k e = grind arith
 
 -- a kind is read in one way
 pub same_kind : (j k : Kind) (r s : List ℕ) → kind_field j r ≡ kind_field k s → (j ≡ k) × (r ≡ s)
@@ -33,9 +19,7 @@ same_kind j k r s e = (same_letter j k (ap (λ l. get_or l 6 0) e), ap (λ l. dr
 
 -- what is found first, or else next
 or_next : {X : Type 0} (Before Next : Type 0) (Found : X → Type 0) (a b : Option X) (Called : Type 0) → MatchOption a Before Found → MatchOption a Called (λ x. b ≡ Some x) → (Called → MatchOption b Next Found) → MatchOption b (Before × Next) Found
-or_next Before Next Found None None Called before called next = (before, next called)
-or_next Before Next Found None (Some y) Called before called next = next called
-or_next Before Next Found (Some x) b Called found same next = rw same found
+or_next Before Next Found a b Called before called next = grind arith
 
 module _ (text : List ℕ) where
   abbrev pub Found : Line × Bor (List ℕ) → Type 0
@@ -45,14 +29,7 @@ module _ (text : List ℕ) where
   NoneOfEight = ((((((NoneOf Node text × NoneOf Edge text) × NoneOf Policy text) × NoneOf Bad text) × NoneOf Quota text) × NoneOf Mark text) × NoneOf Def text) × NoneOf Tariff text
 
   no_line : NoneOfEight → (line : Line) (rest : List ℕ) → ¬ (Begins text line rest)
-  no_line none (Node r) = none.0.0.0.0.0.0.0 r
-  no_line none (Edge r) = none.0.0.0.0.0.0.1 r
-  no_line none (Policy r) = none.0.0.0.0.0.1 r
-  no_line none (Bad r) = none.0.0.0.0.1 r
-  no_line none (Quota k) = none.0.0.0.1 k
-  no_line none (Mark r) = none.0.0.1 r
-  no_line none (Def r) = none.0.1 r
-  no_line none (Tariff r) = none.1 r
+  no_line none line rest found = grind arith
 
   one_or_none : (r : Option (Line × Bor (List ℕ))) → MatchOption r NoneOfEight Found → Reads (Begins text) r
   one_or_none None none = no_line none
@@ -70,15 +47,8 @@ module _ (text : List ℕ) where
       one_or_none h (or_next _ (NoneOf Tariff text) Found g h H seven or_h tariff)
 
 -- a line, and then what follows
-line_then : (line : Line) (rest : List ℕ) → line_of line rest ≡ line_of line [] ++ rest
-line_then (Policy r) rest = simp append_assoc
-line_then (Bad r) rest = simp append_assoc
-line_then (Edge r) rest = simp append_assoc
-line_then (Quota k) rest = simp append_assoc
-line_then (Mark r) rest = simp append_assoc
-line_then (Node r) rest = simp append_assoc
-line_then (Def r) rest = simp append_assoc
-line_then (Tariff r) rest = simp append_assoc
+pub line_then : (line : Line) (rest : List ℕ) → line_of line rest ≡ line_of line [] ++ rest
+line_then line rest = grind (arith, append_assoc)
 
 -- where a line of a text ends
 pub line_stands : (text : List ℕ) (at : ℕ) (line : Line) (rest : List ℕ) → at ≤ length text → Begins (drop at text) line rest → LineAt text at line (length text - length rest)
@@ -95,14 +65,7 @@ line_stands text at line rest in_text found =
     }
 
 longer : (line : Line) (rest : List ℕ) → length rest < length (line_of line rest)
-longer (Policy r) rest = simp (length-append) (omega arith)
-longer (Bad r) rest = simp (length-append) (omega arith)
-longer (Edge r) rest = simp (length-append) (omega arith)
-longer (Quota k) rest = simp (length-append) (omega arith)
-longer (Mark r) rest = simp (length-append) (omega arith)
-longer (Node r) rest = simp (length-append) (omega arith)
-longer (Def r) rest = simp (length-append) (omega arith)
-longer (Tariff r) rest = simp (length-append) (omega arith)
+longer line rest = grind (arith, length-append {A = ℕ})
 
 -- each line takes some bytes
 pub line_advances : {text : List ℕ} {at : ℕ} {line : Line} {end : ℕ} → LineAt text at line end → at < end

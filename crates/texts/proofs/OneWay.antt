@@ -9,7 +9,7 @@ use Rattle.records.proofs.Told.{told_apart}
 use Rattle.records.specs.declared.fault.Fault.{Fault}
 use Rattle.records.specs.declared.fault.Layer.TheVariants.{Table}
 use Rattle.records.specs.declared.record.Line.{Line}
-use Rattle.records.specs.declared.record.Line.TheVariants.{Policy, Bad, Edge, Quota, Mark, Node, Def, Tariff}
+use Rattle.records.specs.declared.record.Line.TheVariants.{Node}
 use Rattle.records.specs.declared.record.NodeRecord.{NodeRecord}
 use Rattle.records.specs.Faults.{Refusal, refusal, told}
 use Rattle.records.specs.Rules.{AllCalled, FirstUncalled, Records, added, call_there, node_at}
@@ -55,14 +55,7 @@ same_end {text} {before} o p x y e f =
 
 -- later lines take no nodes away
 grows : (rs : Records) (line : Line) → length rs.nodes ≤ length (added rs line).nodes
-grows rs (Policy r) = omega arith
-grows rs (Bad r) = omega arith
-grows rs (Edge r) = omega arith
-grows rs (Quota k) = omega arith
-grows rs (Mark r) = omega arith
-grows rs (Node r) = omega (arith, length_push rs.nodes r)
-grows rs (Def r) = omega arith
-grows rs (Tariff r) = omega arith
+grows rs line = grind (arith, length_push)
 
 module _ {room : Room} {text : List ℕ} where
   onward_grows : {at end : ℕ} {rs last : Records} → Onward room text at rs end last → length rs.nodes ≤ length last.nodes

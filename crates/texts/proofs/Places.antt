@@ -1,11 +1,12 @@
 -- The line of a node is found again. Assumes nothing.
 use Rattle.std.proofs.Common.{◌≡◌, ℕ, ◌<◌, ◌≤◌, true, false, List, length, Some, None, Option, sym, refl, ap, ◌∙◌, subst, ⊎_elim, arith, eqb-true}
-use borrow.Author.Tests.{clash, eqb-false}
+use borrow.Author.Tests.{clash}
 use Rattle.std.proofs.lemmas.List.{length_push}
 use Rattle.std.proofs.lemmas.Bool.{and_parts}
+use Rattle.std.proofs.lemmas.Bool.Decides.{nat_tests}
 use Rattle.records.proofs.Kept.{kept}
 use Rattle.records.specs.declared.record.Line.{Line}
-use Rattle.records.specs.declared.record.Line.TheVariants.{Policy, Bad, Edge, Quota, Mark, Node, Def, Tariff}
+use Rattle.records.specs.declared.record.Line.TheVariants.{Node}
 use Rattle.records.specs.declared.record.NodeRecord.{NodeRecord}
 use Rattle.records.specs.Rules.{Records, added, no_defs}
 use Rattle.texts.proofs.Apart.{same_line}
@@ -59,28 +60,11 @@ node_counts room rs r good =
 
 -- such a line has a record
 the_node : (n : ℕ) (line : Line) → is_node n line ≡ true → (r : NodeRecord) × (line ≡ Node r) × (r.node ≡ n)
-the_node n (Policy r) e = absurd (clash e)
-the_node n (Bad r) e = absurd (clash e)
-the_node n (Edge r) e = absurd (clash e)
-the_node n (Quota k) e = absurd (clash e)
-the_node n (Mark r) e = absurd (clash e)
-the_node n (Node r) e = (r, refl, eqb-true r.node n e)
-the_node n (Def r) e = absurd (clash e)
-the_node n (Tariff r) e = absurd (clash e)
+the_node n line e = grind (arith, nat_tests)
 
 -- a good line that is not that of node n leaves at most n nodes
 still_few : (room : Room) (rs : Records) (n : ℕ) (line : Line) → broken room rs line ≡ None → is_node n line ≡ false → length rs.nodes ≤ n → length (added rs line).nodes ≤ n
-still_few room rs n (Policy r) good other few = few
-still_few room rs n (Bad r) good other few = few
-still_few room rs n (Edge r) good other few = few
-still_few room rs n (Quota k) good other few = few
-still_few room rs n (Mark r) good other few = few
-still_few room rs n (Node r) good other few =
-    let counted = node_counts room rs r good in
-    let apart = eqb-false r.node n other in
-    rw length_push (omega (arith, apart))
-still_few room rs n (Def r) good other few = few
-still_few room rs n (Tariff r) good other few = few
+still_few room rs n line good other few = grind (arith, nat_tests, length_push, node_counts)
 
 -- a reading comes to this place with at most n nodes
 pub record Sofar (room : Room) (text : List ℕ) (n at : ℕ) : Type 0 where

@@ -16,6 +16,7 @@ use Rattle.records.specs.declared.record.DefRecord.{DefRecord}
 use Rattle.records.specs.declared.record.TariffRecord.{TariffRecord}
 use Rattle.records.specs.Rules.{Records, added, in_order, no_bads, no_defs, no_edges, no_marks, no_nodes, no_quota, no_tariffs}
 use Rattle.texts.proofs.Broken.{breach_from}
+use Rattle.texts.proofs.Lines.{line_then}
 use Rattle.texts.proofs.Outcomes.{Onward, from_begin}
 use Rattle.texts.specs.Contents.{Room}
 use Rattle.texts.specs.Lines.{Formed, LineAt, line_of}
@@ -178,22 +179,11 @@ read_is_written room text rs passed =
       keeps = subst (Keeps room no_records) (sym same) all.keeps;
     }
 
--- a line, and what follows it
-line_split : (l : Line) (rest : List ℕ) → line_of l rest ≡ line_of l [] ++ rest
-line_split (Policy r) rest = simp append_assoc
-line_split (Bad r) rest = simp append_assoc
-line_split (Edge r) rest = simp append_assoc
-line_split (Quota k) rest = simp append_assoc
-line_split (Mark r) rest = simp append_assoc
-line_split (Node r) rest = simp append_assoc
-line_split (Def r) rest = simp append_assoc
-line_split (Tariff r) rest = simp append_assoc
-
 -- a line that is written at a place stands there
 stands : (text : List ℕ) (at : ℕ) (l : Line) (rest : List ℕ) → at ≤ length text → Formed l → drop at text ≡ line_of l rest → LineAt text at l (at + length (line_of l [])) × (drop (at + length (line_of l [])) text ≡ rest)
 stands text at l rest inside formed e =
     let size = length (line_of l []) in
-    let split = e ∙ line_split l rest in
+    let split = e ∙ line_then l rest in
     let behind : drop (at + size) text ≡ rest = sym (drop-drop size at text) ∙ ap (λ t. drop size t) split ∙ drop-append_seam (line_of l []) rest in
     (record { formed = formed; within = omega (arith, ap length split, length-append (line_of l []) rest, length-drop at text); reads = e ∙ ap (line_of l) (sym behind) }, behind)
 
