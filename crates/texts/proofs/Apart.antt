@@ -1,5 +1,6 @@
 -- A text begins with the line of one record only. Assumes nothing.
-use Rattle.std.proofs.Common.{◌≡◌, ℕ, zero, suc, cond, eqb, List, [], ◌∷◌, ◌++◌, length, get_or, drop, codes, sym, refl, ap, ◌∙◌, arith, length-drop}
+use Rattle.std.proofs.Common.{◌≡◌, ℕ, cond, eqb, List, [], ◌∷◌, ◌++◌, length, get_or, drop, codes, sym, ap, ◌∙◌, arith, length-drop}
+use Rattle.std.proofs.lemmas.Grind.{common_steps}
 use Rattle.std.proofs.lemmas.List.{append_cancel_left}
 use Rattle.records.specs.declared.record.Kind.{Kind}
 use Rattle.records.specs.declared.record.Kind.TheVariants.{Empty}
@@ -54,48 +55,14 @@ made_of byte kind ns =
     Tariff (record { event = get_or ns 0 0; cost = get_or ns 1 0 }))))))))
 
 made_back : (l : Line) → made_of (byte_of l) (kind_of l) (numbers l) ≡ l
-made_back (Policy r) = refl
-made_back (Bad r) = refl
-made_back (Edge r) = refl
-made_back (Quota k) = refl
-made_back (Mark r) = refl
-made_back (Node r) = refl
-made_back (Def r) = refl
-made_back (Tariff r) = refl
+made_back l = grind arith
 
 first_byte : (l : Line) (rest : List ℕ) → get_or (line_of l rest) 0 0 ≡ byte_of l
-first_byte (Policy r) rest = refl
-first_byte (Bad r) rest = refl
-first_byte (Edge r) rest = refl
-first_byte (Quota k) rest = refl
-first_byte (Mark r) rest = refl
-first_byte (Node r) rest = refl
-first_byte (Def r) rest = refl
-first_byte (Tariff r) rest = refl
+first_byte l rest = grind arith
 
 -- each of the numbers has at most ten digits
-record Smalls (ns : List ℕ) : Type 0 where
-  each : (i : ℕ) → Small (get_or ns i 0)
-
-none_small : Smalls []
-none_small = record { each = λ i. omega arith }
-
-more_small : {n : ℕ} {ns : List ℕ} → Small n → Smalls ns → Smalls (n ∷ ns)
-more_small {n} {ns} small smalls = record { each = by }
-  where
-    by : (i : ℕ) → Small (get_or (n ∷ ns) i 0)
-    by zero = small
-    by (suc i) = smalls.each i
-
-all_small : (l : Line) → Formed l → Smalls (numbers l)
-all_small (Policy r) f = more_small f.0 (more_small f.1 (more_small f.2 none_small))
-all_small (Bad r) f = more_small f.0 (more_small f.1 none_small)
-all_small (Edge r) f = more_small f.0 (more_small f.1 (more_small f.2 (more_small f.3 none_small)))
-all_small (Quota k) f = more_small f none_small
-all_small (Mark r) f = more_small f none_small
-all_small (Node r) f = more_small f.0 (more_small f.1 (more_small f.2 none_small))
-all_small (Def r) f = more_small f.0 (more_small f.1 none_small)
-all_small (Tariff r) f = more_small f.0 (more_small f.1 none_small)
+all_small : (l : Line) → Formed l → (i : ℕ) → Small (get_or (numbers l) i 0)
+all_small l f i = grind (arith, common_steps)
 
 -- two texts that begin with the same key have the same number behind it
 same : (key : List ℕ) (m n : ℕ) (r s : List ℕ) → Small m → Small n → Past r → Past s → field key m r ≡ field key n s → (m ≡ n) × (r ≡ s)
@@ -145,7 +112,7 @@ pub lines_apart : (l m : Line) (r s : List ℕ) → Formed l → Formed m → li
 lines_apart l m r s f g e =
     let bytes : byte_of l ≡ byte_of m = sym (first_byte l r) ∙ ap (λ t. get_or t 0 0) e ∙ first_byte m s in
     let back : made_of (byte_of l) (kind_of m) (numbers m) ≡ m = ap (λ b. made_of b (kind_of m) (numbers m)) bytes ∙ made_back m in
-    let parts = split l r s (kind_of m) (numbers m) f (all_small m g).each (e ∙ ap (λ x. line_of x s) (sym back)) in
+    let parts = split l r s (kind_of m) (numbers m) f (all_small m g) (e ∙ ap (λ x. line_of x s) (sym back)) in
     (parts.0 ∙ back, parts.1)
 
 -- one line stands at a place, with one end
