@@ -1,5 +1,5 @@
 -- Fields as they are read. Assumes nothing.
-use Rattle.std.proofs.Common.{◌≡◌, ℕ, List, ◌++◌, Some, None, Option, Bor, sym, ap, ◌∙◌, arith}
+use Rattle.std.proofs.Common.{◌≡◌, ℕ, List, ◌++◌, Some, None, Option, Bor, refl, sym, ap, ◌∙◌, arith}
 use Rattle.std.proofs.lemmas.List.{append_cancel_left}
 use Rattle.std.specs.Int.{IsInRange}
 use Rattle.records.specs.Written.{written}
@@ -24,3 +24,9 @@ space h = omega (arith, h)
 
 pub line_end : IsInRange 48 57 10 → ⊥
 line_end h = omega (arith, h)
+
+pub next_field : {text key : List ℕ} {n : ℕ} {rest : List ℕ} → Field text key n rest → (m : ℕ) (tail : List ℕ) → Small m → Past tail → text ≡ field key m tail → (written m ++ tail ≡ written m ++ tail) × (n ≡ m) × (rest ≡ tail)
+next_field found m tail small past e = let same = same_field found m tail small past e in (refl, same.0, same.1)
+
+pub no_field : {text key : List ℕ} {End : List ℕ → List ℕ} → ((n : ℕ) (rest : List ℕ) → ¬ (Field text key n (End rest))) → (m : ℕ) (rest : List ℕ) → Small m → Past (End rest) → text ≡ field key m (End rest) → (written m ++ End rest ≡ written m ++ End rest) × ⊥
+no_field nothing m rest small past e = absurd (nothing m rest (record { small = small; past = past; reads = e }))
