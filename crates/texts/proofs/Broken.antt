@@ -1,14 +1,10 @@
 -- The first rule that a line breaks. Assumes nothing.
-use Rattle.std.proofs.Common.{◌≡◌, ℕ, ◌≤◌, Bool, false, cond, Some, None, Option, refl, arith}
+use Rattle.std.proofs.Common.{◌≡◌, ℕ, ◌≤◌, false, Some, None, Option, refl, arith}
 use Rattle.records.specs.declared.fault.Layer.TheVariants.{Table}
 use Rattle.records.specs.declared.record.Line.{Line}
 use Rattle.records.specs.Faults.{Refusal, at_place, refusal}
 use Rattle.records.specs.Rules.{Records, breach}
 use Rattle.texts.specs.Contents.{Room, broken, has_room}
-
--- the tests one after another: those of the records, and then the room
-abbrev tested : Option ℕ → Bool → Option ℕ
-tested o b = elim o [ None ↦ cond b None (Some 7) | Some n ↦ Some n ]
 
 -- a line that breaks no rule keeps those of its record
 pub breach_from : (room : Room) (rs : Records) (line : Line) → broken room rs line ≡ None → breach rs line ≡ None

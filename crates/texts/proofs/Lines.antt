@@ -1,5 +1,5 @@
 -- Lines as they are read. Assumes nothing.
-use Rattle.std.proofs.Common.{◌≡◌, ℕ, ◌+◌, ◌-◌, ◌<◌, ◌≤◌, List, [], ◌++◌, length, get_or, drop, Some, None, Option, MatchOption, Bor, ap, ◌∙◌, arith, append_assoc}
+use Rattle.std.proofs.Common.{◌≡◌, ℕ, ◌+◌, ◌-◌, ◌<◌, ◌≤◌, List, [], ◌++◌, length, drop, Some, None, Option, MatchOption, Bor, ap, ◌∙◌, arith, append_assoc}
 use Rattle.std.proofs.lemmas.List.{length-append, length-drop, drop-drop}
 use Rattle.std.proofs.lemmas.List.Prefix.{front_rest}
 use Rattle.records.specs.declared.record.Kind.{Kind}
@@ -7,15 +7,11 @@ use Rattle.records.specs.declared.record.Line.{Line}
 use Rattle.records.specs.declared.record.Line.TheVariants.{Policy, Bad, Edge, Quota, Mark, Node, Def, Tariff}
 use Rattle.records.specs.Kinds.{letter_of}
 use Rattle.texts.specs.Fields.{Reads}
-use Rattle.texts.specs.Lines.{kind_field, Begins, LineAt, line_of, NoneOf, ReadsLine}
+use Rattle.texts.specs.Lines.{Begins, LineAt, line_of, NoneOf, ReadsLine}
 
 -- a letter is that of one kind
 pub same_letter : (j k : Kind) → letter_of j ≡ letter_of k → j ≡ k
 same_letter j k e = grind arith
-
--- a kind is read in one way
-pub same_kind : (j k : Kind) (r s : List ℕ) → kind_field j r ≡ kind_field k s → (j ≡ k) × (r ≡ s)
-same_kind j k r s e = (same_letter j k (ap (λ l. get_or l 6 0) e), ap (λ l. drop 7 l) e)
 
 -- what is found first, or else next
 or_next : {X : Type 0} (Before Next : Type 0) (Found : X → Type 0) (a b : Option X) (Called : Type 0) → MatchOption a Before Found → MatchOption a Called (λ x. b ≡ Some x) → (Called → MatchOption b Next Found) → MatchOption b (Before × Next) Found

@@ -1,5 +1,5 @@
 -- A text has one outcome. Assumes nothing.
-use Rattle.std.proofs.Common.{◌≡◌, ℕ, ◌≤◌, List, ◌++◌, length, take, drop, Some, None, Ok, Err, Option, Result, IsErrAnd, sym, refl, ap, ◌∙◌, subst, ⊎_elim, arith}
+use Rattle.std.proofs.Common.{◌≡◌, ℕ, ◌≤◌, List, length, take, Some, None, Ok, Err, Option, Result, IsErrAnd, sym, refl, ap, ◌∙◌, subst, ⊎_elim, arith}
 use borrow.Author.Tests.{both_ways}
 use Rattle.std.proofs.lemmas.List.{length_push, length-take-le, take-append-drop}
 use Rattle.std.proofs.lemmas.Result.{err_from_is_err_and}
@@ -23,23 +23,11 @@ use Rattle.texts.specs.declared.lists.Counts.{Counts}
 
 -- a list with the same front and the same rest
 same_column : {X : Type 0} {before xs ys : List X} {n m : ℕ} → Overwritten before xs n → Overwritten before ys m → take n xs ≡ take m ys → (n ≡ m) × (xs ≡ ys)
-same_column {before = before} {xs} {ys} {n} {m} p q e =
-    let same : n ≡ m = omega (arith, ap length e, length-take-le n xs p.within, length-take-le m ys q.within) in
-    let rest : drop n xs ≡ drop m ys = p.rest ∙ ap (λ k. drop k before) same ∙ sym q.rest in
-    (same, sym (take-append-drop n xs) ∙ (λ i. e i ++ rest i) ∙ take-append-drop m ys)
+same_column {xs = xs} {ys} {n} {m} p q e = grind (arith, ap length e, length-take-le n xs p.within, length-take-le m ys q.within, take-append-drop n xs, take-append-drop m ys)
 
 -- two readings that come to the same records
 same_read : {text : List ℕ} {before xs ys : Contents} {at place : ℕ} {n m : Counts} → ReadTo text before xs at n → ReadTo text before ys place m → front n xs ≡ front m ys → (n ≡ m) × (xs ≡ ys)
-same_read p q e =
-    let policies = same_column p.policies q.policies (ap (λ (rs : Records). rs.policies) e) in
-    let bads = same_column p.bads q.bads (ap (λ (rs : Records). rs.bads) e) in
-    let edges = same_column p.edges q.edges (ap (λ (rs : Records). rs.edges) e) in
-    let quota = ap (λ (rs : Records). rs.quota) e in
-    let marks = same_column p.marks q.marks (ap (λ (rs : Records). rs.marks) e) in
-    let nodes = same_column p.nodes q.nodes (ap (λ (rs : Records). rs.nodes) e) in
-    let defs = same_column p.defs q.defs (ap (λ (rs : Records). rs.defs) e) in
-    let tariffs = same_column p.tariffs q.tariffs (ap (λ (rs : Records). rs.tariffs) e) in
-    (λ i. record { policies = policies.0 i; bads = bads.0 i; edges = edges.0 i; quota = quota i; marks = marks.0 i; nodes = nodes.0 i; defs = defs.0 i; tariffs = tariffs.0 i }, λ i. record { policies = policies.1 i; bads = bads.1 i; edges = edges.1 i; marks = marks.1 i; nodes = nodes.1 i; defs = defs.1 i; tariffs = tariffs.1 i })
+same_read p q e = grind (arith, same_column p.policies q.policies, same_column p.bads q.bads, same_column p.edges q.edges, same_column p.marks q.marks, same_column p.nodes q.nodes, same_column p.defs q.defs, same_column p.tariffs q.tariffs)
 
 -- two readings that end
 record SameEnd (xs ys : Contents) (n m : Counts) (o p : Option Refusal) : Type 0 where

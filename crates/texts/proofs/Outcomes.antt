@@ -1,9 +1,8 @@
 -- A text is read in one way. Assumes nothing.
 use Rattle.std.proofs.Common.{◌≡◌, ℕ, ◌<◌, ◌⊎◌, List, length, Some, None, Option, sym, refl, ap, ◌∙◌, subst, inl, inr, ⊎_elim, arith}
 use Rattle.records.proofs.Kept.{some_none}
-use Rattle.records.specs.declared.fault.Layer.TheVariants.{Table}
 use Rattle.records.specs.declared.record.Line.{Line}
-use Rattle.records.specs.Faults.{Refusal, refusal}
+use Rattle.records.specs.Faults.{Refusal}
 use Rattle.records.specs.Rules.{Records, added}
 use Rattle.texts.proofs.Apart.{same_line}
 use Rattle.texts.proofs.Lines.{line_advances}
@@ -54,13 +53,7 @@ module _ (room : Room) (text : List ℕ) where
       e.1
 
   same_fault : (at : ℕ) (rs : Records) (f g : Refusal) → Breaks room text at rs f → Breaks room text at rs g → f ≡ g
-  same_fault at rs f g (inl x) (inl y) = x.0 ∙ sym y.0
-  same_fault at rs f g (inl x) (inr y) = absurd (x.1 y.line _ y.found.formed y.found.reads)
-  same_fault at rs f g (inr x) (inl y) = absurd (y.1 x.line _ x.found.formed x.found.reads)
-  same_fault at rs f g (inr x) (inr y) =
-      let one : ◌≡◌ {A = Option ℕ} (Some x.number) (Some y.number) = sym x.rule ∙ ap (λ l. broken room rs l) (same_line x.found y.found).0 ∙ y.rule in
-      let number : x.number ≡ y.number = cc in
-      x.is ∙ ap (λ n. refusal n Table at) number ∙ sym y.is
+  same_fault at rs f g x y = grind (arith, same_line)
 
   same_end : (at : ℕ) (rs : Records) (o p : Option Refusal) → Ends room text at rs o → Ends room text at rs p → o ≡ p
   same_end at rs None None e f = refl
