@@ -67,19 +67,31 @@ module _ {room : Room} {text : List ℕ} where
         ⊎_elim (λ on. no_further on x.found (count_at x ∙ sym (count_at y))) (λ on. sym (no_further on y.found (count_at y ∙ sym (count_at x)))) (linear room text x.passed y.passed)
 
 module _ {text : List ℕ} {before : Contents} where
-  broken_end : {after : Contents} {x : Refusal} → (r : Refused text before after x) → Ends (sizes before) text r.place (front r.counts after) (Some x)
-  broken_end r = (r.more, r.breaks)
+  both_whole : {xs ys : Contents} {n m : Counts} → ReadTo text before xs (length text) n → ReadTo text before ys (length text) m → (n ≡ m) × (xs ≡ ys)
+  both_whole p q = let same = same_end None None p q refl refl in (same.counts, same.lists)
+
+  both_broken : {xs ys : Contents} {x y : Refusal} → Refused text before xs x → Refused text before ys y → (x ≡ y) × (xs ≡ ys)
+  both_broken {x = x} {y} p q = let same = same_end (Some x) (Some y) p.read q.read (p.more, p.breaks) (q.more, q.breaks) in let end = same.end in ((cc), same.lists)
 
   -- a line that breaks a rule, or the end of the text
   not_both : {xs ys : Contents} {x : Refusal} {counts : Counts} → Refused text before xs x → ReadTo text before ys (length text) counts → ⊥
-  not_both {x = x} r read = some_none x (same_end (Some x) None r.read read (broken_end r) refl).end
+  not_both {x = x} r read = some_none x (same_end (Some x) None r.read read (r.more, r.breaks) refl).end
 
-  -- a call that is not there, or all calls there
-  not_all_called : {xs ys : Contents} {n m : Counts} {node : ℕ} → ReadTo text before xs (length text) n → ReadTo text before ys (length text) m → FirstUncalled (front n xs).nodes n.defs node → AllCalled (front m ys).nodes m.defs m.nodes → ⊥
-  not_all_called {xs} {ys} {n} {m} {node} p q first all =
-      let same = same_end None None p q refl refl in
-      let moved : FirstUncalled (take m.nodes ys.nodes) m.defs node = subst (λ (c : Counts). FirstUncalled (take c.nodes ys.nodes) c.defs node) same.counts (subst (λ (ls : Contents). FirstUncalled (take n.nodes ls.nodes) n.defs node) same.lists first) in
-      both_ways (call_there m.defs (node_at (take m.nodes ys.nodes) node)) moved.here (all node (omega (arith, moved.within, length-take-le m.nodes ys.nodes q.nodes.within)))
+  module _ {xs ys : Contents} {n m : Counts} {node : ℕ} (p : ReadTo text before xs (length text) n) (q : ReadTo text before ys (length text) m) (first : FirstUncalled (front n xs).nodes n.defs node) where
+    moved : FirstUncalled (front m ys).nodes m.defs node
+    moved =
+        let same = both_whole p q in
+        subst (λ (c : Counts). FirstUncalled (take c.nodes ys.nodes) c.defs node) same.0 (subst (λ (ls : Contents). FirstUncalled (take n.nodes ls.nodes) n.defs node) same.1 first)
+
+    -- a call that is not there, or all calls there
+    not_all_called : AllCalled (front m ys).nodes m.defs m.nodes → ⊥
+    not_all_called all =
+        let here = moved in
+        both_ways (call_there m.defs (node_at (take m.nodes ys.nodes) node)) here.here (all node (omega (arith, here.within, length-take-le m.nodes ys.nodes q.nodes.within)))
+
+    -- the lowest such node has its line at one place
+    one_call_place : {k a b : ℕ} → FirstUncalled (front m ys).nodes m.defs k → NodeAt (sizes before) text node a → NodeAt (sizes before) text k b → a ≡ b
+    one_call_place {a = a} first' at at' = same_place p.passed (subst (λ i. NodeAt (sizes before) text i a) (one_call moved first') at) at'
 
   pub one_way : {xs ys : Contents} {r s : Result Counts Fault} → Outcome text before xs r → Outcome text before ys s → (r ≡ s) × (xs ≡ ys)
   one_way (Outcome.too_long {fault = f} _ kept told_f) (Outcome.too_long {fault = g} _ kept' told_g) = (ap (λ x. Err x) (told_apart f g (told_f ∙ sym told_g)), kept ∙ sym kept')
@@ -87,28 +99,19 @@ module _ {text : List ℕ} {before : Contents} where
   one_way (Outcome.too_long long _ _) (Outcome.undefined_call short _ _ _ _) = absurd (omega arith)
   one_way (Outcome.too_long long _ _) (Outcome.accepted short _ _) = absurd (omega arith)
   one_way (Outcome.broken_line short _) (Outcome.too_long long _ _) = absurd (omega arith)
-  one_way (Outcome.broken_line {fault = f} _ p) (Outcome.broken_line {fault = g} _ q) =
-      let same = same_end (Some (told f)) (Some (told g)) p.read q.read (broken_end p) (broken_end q) in
-      let one : ◌≡◌ {A = Option Refusal} (Some (told f)) (Some (told g)) = same.end in
-      let fault : told f ≡ told g = cc in
-      (ap (λ x. Err x) (told_apart f g fault), same.lists)
+  one_way (Outcome.broken_line {fault = f} _ p) (Outcome.broken_line {fault = g} _ q) = let same = both_broken p q in (ap (λ x. Err x) (told_apart f g same.0), same.1)
   one_way (Outcome.broken_line _ p) (Outcome.undefined_call _ q _ _ _) = absurd (not_both p q)
   one_way (Outcome.broken_line _ p) (Outcome.accepted _ q _) = absurd (not_both p q)
   one_way (Outcome.undefined_call short _ _ _ _) (Outcome.too_long long _ _) = absurd (omega arith)
   one_way (Outcome.undefined_call _ p _ _ _) (Outcome.broken_line _ q) = absurd (not_both q p)
-  one_way {xs} {ys} (Outcome.undefined_call {fault = f} {counts = n} {node = j} {place = a} _ p first at told_f) (Outcome.undefined_call {fault = g} {counts = m} {node = k} {place = b} _ q first' at' told_g) =
-      let same = same_end None None p q refl refl in
-      let moved : FirstUncalled (take m.nodes ys.nodes) m.defs j = subst (λ (c : Counts). FirstUncalled (take c.nodes ys.nodes) c.defs j) same.counts (subst (λ (ls : Contents). FirstUncalled (take n.nodes ls.nodes) n.defs j) same.lists first) in
-      let node : j ≡ k = one_call moved first' in
-      let place : a ≡ b = same_place p.passed (subst (λ i. NodeAt (sizes before) text i a) node at) at' in
-      (ap (λ x. Err x) (told_apart f g (told_f ∙ ap (λ i. refusal 4 Table i) place ∙ sym told_g)), same.lists)
+  one_way (Outcome.undefined_call {fault = f} _ p first at told_f) (Outcome.undefined_call {fault = g} _ q first' at' told_g) =
+      let place = one_call_place p q first first' at at' in
+      (ap (λ x. Err x) (told_apart f g (told_f ∙ ap (λ i. refusal 4 Table i) place ∙ sym told_g)), (both_whole p q).1)
   one_way (Outcome.undefined_call _ p first _ _) (Outcome.accepted _ q all) = absurd (not_all_called p q first all)
   one_way (Outcome.accepted short _ _) (Outcome.too_long long _ _) = absurd (omega arith)
   one_way (Outcome.accepted _ p _) (Outcome.broken_line _ q) = absurd (not_both q p)
   one_way (Outcome.accepted _ p all) (Outcome.undefined_call _ q first _ _) = absurd (not_all_called q p first all)
-  one_way (Outcome.accepted _ p _) (Outcome.accepted _ q _) =
-      let same = same_end None None p q refl refl in
-      (ap (λ x. Ok x) same.counts, same.lists)
+  one_way (Outcome.accepted _ p _) (Outcome.accepted _ q _) = let same = both_whole p q in (ap (λ x. Ok x) same.0, same.1)
 
   pub only : {after : Contents} {r : Result Counts Fault} → Outcome text before after r → OnlyOutcome text before after r
   only o other answer p = one_way p o
