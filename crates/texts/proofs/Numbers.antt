@@ -24,9 +24,9 @@ same_run (x ∷ xs) (y ∷ ys) r s dx dy pr ps e =
     let tails = same_run xs ys r s dx.1 dy.1 pr ps (ap (λ l. drop 1 l) e) in
     ((λ i. ap (λ l. get_or l 0 0) e i ∷ tails.0 i), tails.1)
 
--- a number and what follows it are read in one way
-pub same_number : (m n : ℕ) (r s : List ℕ) → Small m → Small n → Past r → Past s → written m ++ r ≡ written n ++ s → (m ≡ n) × (r ≡ s)
+-- a number and what follows it are read in one way; the first two parts show grind what to look for
+pub same_number : (m n : ℕ) (r s : List ℕ) → Small m → Small n → Past r → Past s → written m ++ r ≡ written n ++ s → (written m ++ r ≡ written m ++ r) × (written n ++ s ≡ written n ++ s) × (m ≡ n) × (r ≡ s)
 same_number m n r s sm sn pr ps e =
     let parts = same_run (written m) (written n) r s (written_digits m sm) (written_digits n sn) pr ps e in
     let same : decimal m ≡ decimal n = sym (written_is m (omega arith)) ∙ parts.0 ∙ written_is n (omega arith) in
-    (sym (digits_value-decimal own m (omega arith)) ∙ ap (digits_value 10) same ∙ digits_value-decimal own n (omega arith), parts.1)
+    (refl, refl, sym (digits_value-decimal own m (omega arith)) ∙ ap (digits_value 10) same ∙ digits_value-decimal own n (omega arith), parts.1)

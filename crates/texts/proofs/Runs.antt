@@ -1,18 +1,17 @@
 -- The digits that a text begins with. Assumes nothing.
-use Rattle.std.proofs.Common.{◌≡◌, ℕ, List, [], ◌∷◌, ◌++◌, length, take, drop, decimal, Ok, Result, true, false, refl, sym, ap, ◌∙◌, subst, ⊎_elim, arith, add-zero}
+use Rattle.std.proofs.Common.{◌≡◌, ℕ, List, ◌++◌, length, take, drop, decimal, Ok, Result, true, false, refl, sym, ap, ◌∙◌, subst, ⊎_elim, arith, add-zero}
 use Rattle.std.specs.Char.{is_ascii_digit}
 use Rattle.std.specs.Int.{IsInRange}
 use Rattle.std.specs.List.{prefix_len, take_while}
-use Rattle.std.specs.Str.{IsAscii, IsUtf8}
+use Rattle.std.specs.Str.{IsUtf8}
 use Rattle.std.specs.Str.Parse.{digits_value, AllDigits, ParsesUnsigned}
 use Rattle.std.proofs.lemmas.Bool.Decides.{nat_tests}
-use Rattle.std.proofs.lemmas.Fmt.{length-decimal-le, decimal_nonempty, first_decimal, decimal-digits_value}
+use Rattle.std.proofs.lemmas.Fmt.{IsAscii-from_digits, length-decimal-le, decimal_nonempty, first_decimal, decimal-digits_value}
 use Rattle.std.proofs.lemmas.List.{take-append-drop, get_or-take, get_or-drop, get_or_past}
 use Rattle.std.proofs.lemmas.List.Folds.{length-prefix_len}
 use Rattle.std.proofs.lemmas.List.Sums.{prefix_len_passes, prefix_len_stops}
 use Rattle.std.proofs.lemmas.Str.{IsUtf8-from_ascii}
-use Rattle.std.proofs.lemmas.Str.Ascii.{IsAscii-nil, IsAscii-cons}
-use Rattle.std.proofs.lemmas.Str.Parse.{digits_value_short, digit_from_value, numerals_by_value, tells_by_index, parse_gives}
+use Rattle.std.proofs.lemmas.Str.Parse.{digits_value_short, numerals_by_value, tells_by_index, parse_gives}
 use Rattle.std.proofs.str.Laws.{order}
 use Rattle.records.specs.Written.{written}
 use Rattle.records.proofs.Numbers.{written_is}
@@ -27,12 +26,8 @@ decimal_is_spelled n small =
       lead = λ zero. ⊎_elim (λ some. absurd (omega (arith, first_decimal n some (omega arith), zero))) (λ none. omega (arith, length-decimal-le 1 n (omega arith) (omega arith) (omega arith), decimal_nonempty n (omega arith))) (order 0 n);
     }
 
-digits_are_ascii : (ds : List ℕ) → AllDigits 10 ds → IsAscii ds
-digits_are_ascii [] all = IsAscii-nil
-digits_are_ascii (c ∷ cs) all = IsAscii-cons c cs (omega (arith, digit_from_value c all.0)) (digits_are_ascii cs all.1)
-
 pub digits_are_utf8 : (ds : List ℕ) → AllDigits 10 ds → IsUtf8 ds
-digits_are_utf8 ds all = IsUtf8-from_ascii ds (digits_are_ascii ds all)
+digits_are_utf8 ds all = IsUtf8-from_ascii ds (IsAscii-from_digits ds all)
 
 small_value : (ds : List ℕ) → AllDigits 10 ds → IsSpelled ds → Small (digits_value 10 ds)
 small_value ds all good = digits_value_short own ds 10 all good.few
