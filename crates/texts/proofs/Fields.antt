@@ -19,5 +19,6 @@ space h = omega (arith, h)
 pub line_end : IsInRange 48 57 10 → ⊥
 line_end h = omega (arith, h)
 
+-- where no such field is read, none stands; the first part shows grind what to look for
 pub no_field : {text key : List ℕ} {End : List ℕ → List ℕ} → ((n : ℕ) (rest : List ℕ) → ¬ (Field text key n (End rest))) → (m : ℕ) (rest : List ℕ) → Small m → Past (End rest) → text ≡ field key m (End rest) → (written m ++ End rest ≡ written m ++ End rest) × ⊥
 no_field nothing m rest small past e = absurd (nothing m rest (record { small = small; past = past; reads = e }))

@@ -1,7 +1,6 @@
 -- Numbers as they are written. Assumes nothing.
-use Rattle.std.proofs.Common.{◌≡◌, ℕ, List, [], ◌∷◌, ◌++◌, get_or, drop, decimal, sym, refl, ap, ◌∙◌, subst, arith}
+use Rattle.std.proofs.Common.{◌≡◌, ℕ, List, [], ◌∷◌, ◌++◌, decimal, sym, refl, ap, ◌∙◌, subst, arith}
 use Rattle.std.specs.Str.Parse.{digits_value, AllDigits}
-use Rattle.std.specs.Int.{IsInRange}
 use Rattle.std.proofs.lemmas.Fmt.{digits_decimal, digits_value-decimal}
 use Rattle.std.proofs.lemmas.Str.Parse.{IsNumeralModel, numerals_by_value, tells_digits, digit_from_value}
 use Rattle.records.specs.Written.{written}
@@ -18,11 +17,9 @@ written_digits n small = subst (AllDigits 10) (sym (written_is n (omega arith)))
 -- where the digits end, the rest begins
 pub same_run : (xs ys r s : List ℕ) → AllDigits 10 xs → AllDigits 10 ys → Past r → Past s → xs ++ r ≡ ys ++ s → (xs ≡ ys) × (r ≡ s)
 same_run [] [] r s dx dy pr ps e = (refl, e)
-same_run [] (y ∷ ys) r s dx dy pr ps e = absurd (pr (subst (IsInRange 48 57) (sym (ap (λ l. get_or l 0 0) e)) (digit_from_value y dy.0)))
-same_run (x ∷ xs) [] r s dx dy pr ps e = absurd (ps (subst (IsInRange 48 57) (ap (λ l. get_or l 0 0) e) (digit_from_value x dx.0)))
-same_run (x ∷ xs) (y ∷ ys) r s dx dy pr ps e =
-    let tails = same_run xs ys r s dx.1 dy.1 pr ps (ap (λ l. drop 1 l) e) in
-    ((λ i. ap (λ l. get_or l 0 0) e i ∷ tails.0 i), tails.1)
+same_run [] (y ∷ ys) r s dx dy pr ps e = grind (arith, digit_from_value)
+same_run (x ∷ xs) [] r s dx dy pr ps e = grind (arith, digit_from_value)
+same_run (x ∷ xs) (y ∷ ys) r s dx dy pr ps e = grind (arith, same_run xs ys r s)
 
 -- a number and what follows it are read in one way; the first two parts show grind what to look for
 pub same_number : (m n : ℕ) (r s : List ℕ) → Small m → Small n → Past r → Past s → written m ++ r ≡ written n ++ s → (written m ++ r ≡ written m ++ r) × (written n ++ s ≡ written n ++ s) × (m ≡ n) × (r ≡ s)

@@ -1,6 +1,5 @@
 -- A text is read in one way. Assumes nothing.
-use Rattle.std.proofs.Common.{◌≡◌, ℕ, ◌<◌, ◌⊎◌, List, length, Some, None, Option, sym, refl, ap, ◌∙◌, subst, inl, inr, ⊎_elim, arith}
-use Rattle.records.proofs.Kept.{some_none}
+use Rattle.std.proofs.Common.{◌≡◌, ℕ, ◌<◌, ◌⊎◌, List, length, Some, None, Option, sym, refl, ap, subst, inl, inr, ⊎_elim, arith}
 use Rattle.records.specs.declared.record.Line.{Line}
 use Rattle.records.specs.Faults.{Refusal}
 use Rattle.records.specs.Rules.{Records, added}
@@ -46,11 +45,7 @@ module _ (room : Room) (text : List ℕ) where
 
   -- where a reading ends, no good line follows
   stuck : (at : ℕ) (rs : Records) (o : Option Refusal) → Ends room text at rs o → {line : Line} {end : ℕ} → LineAt text at line end → broken room rs line ≡ None → ⊥
-  stuck at rs None e found good = omega (arith, e, line_advances found, found.within)
-  stuck at rs (Some fault) e {line} {end} found good =
-      ⊎_elim (λ form. form.1 line _ found.formed found.reads)
-      (λ offence. some_none offence.number (sym offence.rule ∙ ap (λ l. broken room rs l) (same_line offence.found found).0 ∙ good))
-      e.1
+  stuck at rs o e found good = grind (arith, line_advances, same_line)
 
   same_fault : (at : ℕ) (rs : Records) (f g : Refusal) → Breaks room text at rs f → Breaks room text at rs g → f ≡ g
   same_fault at rs f g x y = grind (arith, same_line)

@@ -26,20 +26,16 @@ over e found = omega (arith, e, line_advances found, found.within)
 
 module _ {room : Room} {text : List ℕ} where
   ahead : {at stop : ℕ} {rs all : Records} {line : Line} {end : ℕ} → Onward room text at rs stop all → stop ≡ length text → LineAt text at line end → broken room rs line ≡ None
-  ahead Onward.here e found = absurd (over e found)
-  ahead {rs = rs} (Onward.step f g on) e found = subst (λ l. broken room rs l ≡ None) (same_line f found).0 g
+  ahead on e found = grind (arith, over, same_line)
 
   back : {at stop : ℕ} {rs all : Records} {line : Line} {end : ℕ} → Onward room text stop all at rs → stop ≡ length text → LineAt text at line end → broken room rs line ≡ None
-  back Onward.here e found = absurd (over e found)
-  back (Onward.step f g on) e found = absurd (over e f)
+  back on e found = grind (arith, over)
 
   ahead_end : {at stop : ℕ} {rs all : Records} → Onward room text at rs stop all → NoLine text at → rs ≡ all
-  ahead_end Onward.here none = refl
-  ahead_end (Onward.step {line = line} f g on) none = absurd (none line _ f.formed f.reads)
+  ahead_end on none = grind arith
 
   back_end : {at stop : ℕ} {rs all : Records} → Onward room text stop all at rs → stop ≡ length text → rs ≡ all
-  back_end Onward.here e = refl
-  back_end (Onward.step f g on) e = absurd (over e f)
+  back_end on e = grind (arith, over)
 
   -- in a text that is read whole, the line that follows keeps the rules
   pub goes_on : {at : ℕ} {rs all : Records} {line : Line} {end : ℕ} → Passed room text at rs → Passed room text (length text) all → LineAt text at line end → broken room rs line ≡ None
