@@ -1,5 +1,5 @@
 -- The first rule that a line breaks. Assumes nothing.
-use Rattle.std.proofs.Common.{◌≡◌, ℕ, ◌≤◌, false, Some, None, Option, refl, arith}
+use Rattle.std.proofs.Common.{◌≡◌, ℕ, ◌≤◌, false, Some, None, Option, arith}
 use Rattle.records.specs.declared.fault.Layer.TheVariants.{Table}
 use Rattle.records.specs.declared.record.Line.{Line}
 use Rattle.records.specs.Faults.{Refusal, at_place, refusal}
@@ -13,12 +13,10 @@ breach_from room rs line e = grind arith
 
 -- what an answer tells at a place
 pub no_breach : (place : ℕ) (o : Option ℕ) → None ≡ at_place place o → o ≡ None
-no_breach place None e = refl
-no_breach place (Some n) e = cc
+no_breach place o e = grind arith
 
 pub one_breach : (place : ℕ) (o : Option ℕ) (x : Refusal) → Some x ≡ at_place place o → (n : ℕ) × (o ≡ Some n) × (x ≡ refusal n Table place)
-one_breach place None x e = cc
-one_breach place (Some n) x e = (n, refl, cc)
+one_breach place o x e = grind arith
 
 -- the rules of records have numbers up to 4
 breach_small : (rs : Records) (line : Line) (n : ℕ) → breach rs line ≡ Some n → n ≤ 4

@@ -1,5 +1,5 @@
 -- Lines as they are read. Assumes nothing.
-use Rattle.std.proofs.Common.{◌≡◌, ℕ, ◌+◌, ◌-◌, ◌<◌, ◌≤◌, List, [], ◌++◌, length, drop, Some, None, Option, MatchOption, Bor, ap, ◌∙◌, arith, append_assoc}
+use Rattle.std.proofs.Common.{◌≡◌, ℕ, ◌+◌, ◌-◌, ◌<◌, ◌≤◌, List, [], ◌++◌, length, drop, Some, Option, MatchOption, Bor, ap, ◌∙◌, arith, append_assoc}
 use Rattle.std.proofs.lemmas.List.{length-append, length-drop, drop-drop}
 use Rattle.std.proofs.lemmas.List.Prefix.{front_rest}
 use Rattle.records.specs.declared.record.Kind.{Kind}
@@ -28,8 +28,7 @@ module _ (text : List ℕ) where
   no_line none line rest found = grind arith
 
   one_or_none : (r : Option (Line × Bor (List ℕ))) → MatchOption r NoneOfEight Found → Reads (Begins text) r
-  one_or_none None none = no_line none
-  one_or_none (Some p) found = found
+  one_or_none r one = grind (arith, no_line)
 
   -- the first that is read of the eight kinds of line
   pub first_of_eight : (a b c d e f g h : Option (Line × Bor (List ℕ))) (B C D E F G H : Type 0) → ReadsLine Node text a → MatchOption a B (λ x. b ≡ Some x) → (B → ReadsLine Edge text b) → MatchOption b C (λ x. c ≡ Some x) → (C → ReadsLine Policy text c) → MatchOption c D (λ x. d ≡ Some x) → (D → ReadsLine Bad text d) → MatchOption d E (λ x. e ≡ Some x) → (E → ReadsLine Quota text e) → MatchOption e F (λ x. f ≡ Some x) → (F → ReadsLine Mark text f) → MatchOption f G (λ x. g ≡ Some x) → (G → ReadsLine Def text g) → MatchOption g H (λ x. h ≡ Some x) → (H → ReadsLine Tariff text h) → Reads (Begins text) h

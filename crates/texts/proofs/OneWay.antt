@@ -52,10 +52,7 @@ module _ {room : Room} {text : List ℕ} where
 
   -- behind the line of a node there are more nodes
   no_further : {at end : ℕ} {rs last : Records} {node : NodeRecord} {stop : ℕ} → Onward room text at rs end last → LineAt text at (Node node) stop → length rs.nodes ≡ length last.nodes → at ≡ end
-  no_further Onward.here found e = refl
-  no_further {rs = rs} {last = last} {node = node} (Onward.step {mid = mid} {end = end} {line = line} f good on) found e =
-      let on' = subst (λ l. Onward room text mid (added rs l) end last) (same_line f found).0 on in
-      absurd (omega (arith, onward_grows on', length_push rs.nodes node))
+  no_further on found e = grind (arith, same_line, onward_grows, length_push)
 
   module _ {all : Records} (whole : Passed room text (length text) all) where
     count_at : {n at : ℕ} → (x : NodeAt room text n at) → length x.before.nodes ≡ n
