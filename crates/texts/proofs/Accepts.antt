@@ -4,7 +4,7 @@ use Rattle.std.proofs.lemmas.List.{length-take-le}
 use Rattle.records.proofs.Kept.{some_none}
 use Rattle.std.proofs.lemmas.Bool.{both_ways}
 use Rattle.records.specs.declared.fault.Fault.{Fault}
-use Rattle.records.specs.Faults.{Refusal}
+use Rattle.records.specs.declared.fault.Refusal.{Refusal}
 use Rattle.records.specs.Rules.{AllCalled, FirstUncalled, Records, call_there, node_at}
 use Rattle.texts.proofs.Outcomes.{one_outcome}
 use Rattle.texts.proofs.Whole.{read_is_written, written_is_read}

@@ -2,7 +2,8 @@
 use Rattle.std.proofs.Common.{◌≡◌, ℕ, ◌≤◌, false, Some, None, Option, arith}
 use Rattle.records.specs.declared.fault.Layer.TheVariants.{Table}
 use Rattle.records.specs.declared.record.Line.{Line}
-use Rattle.records.specs.Faults.{Refusal, at_place, refusal}
+use Rattle.records.specs.declared.fault.Refusal.{Refusal}
+use Rattle.records.specs.Faults.{at_place, refusal}
 use Rattle.records.specs.Rules.{Records, breach}
 use Rattle.texts.specs.Contents.{Room, broken, has_room}
 

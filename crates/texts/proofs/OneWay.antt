@@ -11,7 +11,8 @@ use Rattle.records.specs.declared.fault.Layer.TheVariants.{Table}
 use Rattle.records.specs.declared.record.Line.{Line}
 use Rattle.records.specs.declared.record.Line.TheVariants.{Node}
 use Rattle.records.specs.declared.record.NodeRecord.{NodeRecord}
-use Rattle.records.specs.Faults.{Refusal, refusal, told}
+use Rattle.records.specs.declared.fault.Refusal.{Refusal}
+use Rattle.records.specs.Faults.{refusal, told}
 use Rattle.records.specs.Rules.{AllCalled, FirstUncalled, Records, added, call_there, node_at}
 use Rattle.texts.proofs.Apart.{same_line}
 use Rattle.texts.proofs.Outcomes.{Ends, Onward, linear, one_outcome}

@@ -1,7 +1,7 @@
 -- A text is read in one way. Assumes nothing.
 use Rattle.std.proofs.Common.{◌≡◌, ℕ, ◌<◌, ◌⊎◌, List, length, Some, None, Option, sym, refl, ap, subst, inl, inr, ⊎_elim, arith}
 use Rattle.records.specs.declared.record.Line.{Line}
-use Rattle.records.specs.Faults.{Refusal}
+use Rattle.records.specs.declared.fault.Refusal.{Refusal}
 use Rattle.records.specs.Rules.{Records, added}
 use Rattle.texts.proofs.Apart.{same_line}
 use Rattle.texts.proofs.Lines.{line_advances}

@@ -6,7 +6,8 @@ use Rattle.records.proofs.Breaks.{one_call}
 use Rattle.records.proofs.Kept.{some_none}
 use Rattle.records.specs.declared.fault.Fault.{Fault}
 use Rattle.records.specs.declared.fault.Layer.TheVariants.{Table}
-use Rattle.records.specs.Faults.{Refusal, refusal}
+use Rattle.records.specs.declared.fault.Refusal.{Refusal}
+use Rattle.records.specs.Faults.{refusal}
 use Rattle.records.specs.Rules.{FirstUncalled, Records, call_there, node_at}
 use Rattle.texts.proofs.OneWay.{same_place}
 use Rattle.texts.proofs.Outcomes.{one_outcome}

@@ -2,7 +2,8 @@
 use Rattle.std.proofs.Common.{◌≡◌, ℕ, ◌-◌, ◌≤◌, List, length, drop, Some, None, Option, rules, sym, ap, ◌∙◌, subst, inr, arith}
 use Rattle.std.proofs.lemmas.List.{drop-drop}
 use Rattle.records.specs.declared.record.Line.{Line}
-use Rattle.records.specs.Faults.{Refusal, at_place}
+use Rattle.records.specs.declared.fault.Refusal.{Refusal}
+use Rattle.records.specs.Faults.{at_place}
 use Rattle.texts.proofs.Broken.{no_breach, one_breach}
 use Rattle.texts.proofs.Walks.{found_at}
 use Rattle.texts.specs.Contents.{Contents, Grown, Overwritten, broken, contents, sizes}

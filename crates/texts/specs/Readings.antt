@@ -5,7 +5,8 @@ use Rattle.records.specs.declared.fault.Layer.TheVariants.{Line as InLine, Table
 use Rattle.records.specs.declared.record.Line.{Line}
 use Rattle.records.specs.declared.record.Line.TheVariants.{Node}
 use Rattle.records.specs.declared.record.NodeRecord.{NodeRecord}
-use Rattle.records.specs.Faults.{Refusal, refusal, told}
+use Rattle.records.specs.declared.fault.Refusal.{Refusal}
+use Rattle.records.specs.Faults.{refusal, told}
 use Rattle.records.specs.Rules.{AllCalled, FirstUncalled, Records, added}
 use Rattle.texts.specs.Contents.{Contents, Overwritten, Room, broken, front, sizes}
 use Rattle.texts.specs.Lines.{LineAt, NoLine}

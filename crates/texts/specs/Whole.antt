@@ -4,7 +4,8 @@ use Rattle.records.specs.declared.fault.Fault.{Fault}
 use Rattle.records.specs.declared.fault.Layer.TheVariants.{Table}
 use Rattle.records.specs.declared.record.Line.{Line}
 use Rattle.records.specs.declared.record.Line.TheVariants.{Policy, Bad, Edge, Quota, Mark, Node, Def, Tariff}
-use Rattle.records.specs.Faults.{Refusal, answer, refusal}
+use Rattle.records.specs.declared.fault.Refusal.{Refusal}
+use Rattle.records.specs.Faults.{answer, refusal}
 use Rattle.records.specs.Rules.{AllCalled, FirstUncalled, Records, added}
 use Rattle.texts.specs.Contents.{Contents, Room, broken, front, sizes}
 use Rattle.texts.specs.Lines.{Formed, line_of}

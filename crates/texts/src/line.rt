@@ -18,13 +18,13 @@ fn kind(text: &[u8]) -> Option<(Kind, &[u8])>
     Some((Kind::try_from(*letter).ok()?, rest))
 }
 
-// Whether the fields that this kind does not use are 0.
-fn unused_are_zero(kind: Kind, a: u64, b: u64) -> bool
-    ensures { result ≡ unused kind a b }
+// Whether the fields that the node's kind does not use are 0.
+fn unused_are_zero(node: NodeRecord) -> bool
+    ensures { result ≡ unused node.kind node.a node.b }
 {
-    match kind {
-        Kind::Empty => a == 0 && b == 0,
-        Kind::Event | Kind::Call => b == 0,
+    match node.kind {
+        Kind::Empty => node.a == 0 && node.b == 0,
+        Kind::Event | Kind::Call => node.b == 0,
         Kind::Seq | Kind::Choice | Kind::Frame => true,
     }
 }
@@ -89,10 +89,11 @@ fn node_line(text: &[u8]) -> Option<(Line, &[u8])>
     let (kind, rest) = kind(rest)?;
     let (a, rest) = field(rest, b" a=")?;
     let (b, rest) = last_field(rest, b" b=")?;
-    if !unused_are_zero(kind, a, b) {
+    let record = NodeRecord { node, kind, a, b };
+    if !unused_are_zero(record) {
         return None;
     }
-    Some((Line::Node(NodeRecord { node, kind, a, b }), rest))
+    Some((Line::Node(record), rest))
 }
 
 fn def_line(text: &[u8]) -> Option<(Line, &[u8])>

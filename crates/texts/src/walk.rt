@@ -7,8 +7,8 @@ use records::record::Line;
 // The lines of a text from `at` on.
 #[derive(Drop)]
 pub(crate) struct Lines<'a> {
-    pub(crate) text: &'a [u8],
-    pub(crate) at: usize,
+    text: &'a [u8],
+    at: usize,
     ghost within: { at ≤ length text.now },
 }
 
