@@ -8,7 +8,7 @@ use Rattle.records.specs.declared.record.PolicyRecord.{PolicyRecord}
 use Rattle.records.specs.declared.record.BadRecord.{BadRecord}
 use Rattle.records.specs.declared.record.EdgeRecord.{EdgeRecord}
 use Rattle.records.specs.Rules.{rises_edge}
-use Rattle.records.proofs.Kept.{kept}
+use Rattle.records.proofs.Kept.{Kept as LineKept, kept}
 use Rattle.boards.specs.Meanings.{Closed, Sound}
 use Rattle.boards.specs.Tables.{edge_to, policy_at, policy_of, tabled}
 use Rattle.table_board.specs.Making.{Kept, edge_at, only_board}
@@ -20,14 +20,6 @@ pub record PolicyKept (policies : List PolicyRecord) (k : ℕ) : Type 0 where
   pub some : 1 ≤ (policy_at policies k).states
   pub eight : (policy_at policies k).states ≤ 8
   pub starts : (policy_at policies k).start < (policy_at policies k).states
-
--- edge record k
-pub record EdgeKept (policies : List PolicyRecord) (edges : List EdgeRecord) (k : ℕ) : Type 0 where
-  pub rises : rises_edge (take k edges) (edge_at edges k) ≡ true
-  pub state : (edge_at edges k).from < 8
-  pub event : (edge_at edges k).event < 256
-  pub limit : (edge_at edges k).to < 8
-  pub leads : (edge_at edges k).to < (policy_at policies (edge_at edges k).policy).states
 
 -- what a policy record says of its own policy
 pub record PolicySays (policies : List PolicyRecord) (bads : List BadRecord) (edges : List EdgeRecord) (r : PolicyRecord) : Type 0 where
@@ -52,16 +44,8 @@ module _ {policies : List PolicyRecord} {bads : List BadRecord} {edges : List Ed
         starts = grind (arith, nat_tests);
       }
 
-  pub each_edge : (k : ℕ) → k < length edges → EdgeKept policies edges k
-  each_edge k h =
-      let line = kept (only_board policies bads (take k edges)) (line.Edge (edge_at edges k)) (all.every_edge k h) in
-      record {
-        rises = grind (arith, nat_tests);
-        state = grind (arith, nat_tests);
-        event = grind (arith, nat_tests);
-        limit = grind (arith, nat_tests);
-        leads = grind (arith, nat_tests);
-      }
+  pub each_edge : (k : ℕ) → k < length edges → LineKept (only_board policies bads (take k edges)) (line.Edge (edge_at edges k))
+  each_edge k h = kept _ _ (all.every_edge k h)
 
   -- the automata are closed, and there are at most eight
   pub tabled_sound : Sound (tabled policies bads edges)
@@ -73,7 +57,7 @@ module _ {policies : List PolicyRecord} {bads : List BadRecord} {edges : List Ed
           some = policy.some;
           few = policy.eight;
           starts = policy.starts;
-          stays = λ q e inside. edge_leads edges p q e (policy_at policies p).states (λ k h same. grind (arith, each_edge k h)) inside;
+          stays = λ q e inside. edge_leads edges p q e (policy_at policies p).states (λ k h same. grind (arith, nat_tests, each_edge k h)) inside;
         };
   }
 

@@ -5,7 +5,7 @@ use Rattle.std.proofs.lemmas.Bool.Decides.{nat_tests}
 use Rattle.records.specs.declared.record.PolicyRecord.{PolicyRecord}
 use Rattle.records.specs.declared.record.BadRecord.{BadRecord}
 use Rattle.records.specs.declared.record.EdgeRecord.{EdgeRecord}
-use Rattle.records.specs.Rules.{earlier_edge, rises}
+use Rattle.records.specs.Rules.{earlier_edge, rises, rises_edge}
 use Rattle.boards.specs.Tables.{edge_to, is_edge}
 use Rattle.table_board.specs.Making.{EdgesAreObeyed, Kept, edge_at}
 use Rattle.table_board.proofs.Fits.{each_edge}
@@ -37,10 +37,13 @@ module _ {policies : List PolicyRecord} {bads : List BadRecord} {edges : List Ed
   -- each key is above the one before it
   next_key : (k : ℕ) → suc k < length edges → key (edge_at edges k) < key (edge_at edges (suc k))
   next_key k within =
-      let r = edge_at edges (suc k) in
+      let x = edge_at edges k in
+      let y = edge_at edges (suc k) in
+      let line = each_edge all (suc k) within in
       let before = each_edge all k (omega arith) in
-      let last = rises_last earlier_edge _ (take (suc k) edges) k r (length-take-le (suc k) edges (omega arith)) (each_edge all (suc k) within).rises in
-      earlier_key (edge_at edges k) r before.state before.event (rw (get_or-take (suc k) edges k _ (omega arith)) at last)
+      let rises : rises_edge (take (suc k) edges) y ≡ true = grind arith in
+      let last = rises_last earlier_edge _ (take (suc k) edges) k y (length-take-le (suc k) edges (omega arith)) rises in
+      earlier_key x y (grind (arith, nat_tests)) (grind (arith, nat_tests)) (rw (get_or-take (suc k) edges k _ (omega arith)) at last)
 
   rising : (k j : ℕ) → k < j → j < length edges → key (edge_at edges k) < key (edge_at edges j)
   rising k zero less within = absurd (omega arith)
