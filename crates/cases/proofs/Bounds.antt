@@ -1,5 +1,5 @@
 -- Bounds of the efforts of a node's histories, found in some turns, and right once another turn adds nothing. Assumes nothing.
-use Rattle.std.proofs.Common.{◌≡◌, ℕ, zero, suc, ◌<◌, Bool, true, false, cond, not, ◌&&◌, ◌||◌, eqb, ltb, ◌⊎◌, List, [], ◌∷◌, ◌++◌, length, get_or, Some, sym, ap, ◌∙◌, subst, inr, arith}
+use Rattle.std.proofs.Common.{◌≡◌, ℕ, zero, suc, ◌<◌, Bool, true, false, cond, not, ◌&&◌, ◌||◌, eqb, ltb, ◌⊎◌, List, [], ◌∷◌, ◌++◌, length, get_or, Some, sym, ap, ◌∙◌, inr, arith}
 use Rattle.std.specs.List.{slice_get}
 use Rattle.std.proofs.lemmas.Option.{slice_get_within, get_or_from_slice_get}
 use Rattle.std.proofs.lemmas.Bool.Decides.{nat_tests}
@@ -88,7 +88,7 @@ module _ {S : Type 0} (m : Measure S) (s : Setting) (p : ℕ) where
       rules {x} {n} {q} e lt =
           let row = all_below_at (length s.nodes) _ (and_parts (ltb p 8) _ ok).1 n (slice_get_within s.nodes n x e) in
           let cell = all_below_at automaton.states (settled_at (get_or s.nodes n Empty) n) row q lt in
-          rules_at x n q (subst (λ (y : Node). settled_at y n q ≡ true) (get_or_from_slice_get s.nodes n x Empty e) cell)
+          rules_at x n q (rw (get_or_from_slice_get s.nodes n x Empty e) at cell)
 
       abbrev Reached : Ends m → ℕ → List ℕ → Type 0
       Reached es q w = Covers m es (run automaton q (events w)) (effort m s.costs w)
@@ -102,21 +102,25 @@ module _ {S : Type 0} (m : Measure S) (s : Setting) (p : ℕ) where
       within : {n : ℕ} (q : ℕ) (u : List ℕ) → Complete s.nodes s.bodies n u → q < automaton.states → Reached (ends turns n q) q u → run automaton q (events u) < automaton.states
       within q u a lt t = ltb-true _ _ (every_at m (λ k y. ltb k automaton.states) (rules (complete_node a).1 lt).range t).2
 
+      -- what a turn finds is listed
+      listed : {x : Node} (n q : ℕ) {k : ℕ} {y : S} → slice_get s.nodes n ≡ Some x → q < automaton.states → Covers m (ends_by (ends turns) x q) k y → Covers m (ends turns n q) k y
+      listed n q e lt t = through m laws (rules e lt).complete t
+
       -- the state after a complete history is listed, with a bound of its effort
       complete_reached : {n : ℕ} {w : List ℕ} (q : ℕ) → Complete s.nodes s.bodies n w → q < automaton.states → Reached (ends turns n q) q w
-      complete_reached q (Complete.empty e) lt = through m laws (rules e lt).complete (nothing_reached [] q)
+      complete_reached q (Complete.empty e) lt = listed _ q e lt (nothing_reached [] q)
       complete_reached q (Complete.event {n} {e = i} e) lt =
           let small = event_low table n i e in
-          through m laws (rules e lt).complete (covers_same m (state-event automaton q i small) (effort-event laws s.costs i small) (Covers.here {es = []} (reflexive laws _)))
+          listed _ q e lt (covers_same m (state-event automaton q i small) (effort-event laws s.costs i small) (Covers.here {es = []} (reflexive laws _)))
       complete_reached q (Complete.sequence {r} {u} {v} e a b) lt =
           let first = complete_reached q a lt in
-          through m laws (rules e lt).complete (join_reached (ends turns r) q u v first (complete_reached _ b (within q u a lt first)))
-      complete_reached q (Complete.left {r} e a) lt = through m laws (rules e lt).complete (covers_first m (ends turns r q) (complete_reached q a lt))
-      complete_reached q (Complete.right {l} e a) lt = through m laws (rules e lt).complete (covers_second m (ends turns l q) (complete_reached q a lt))
+          listed _ q e lt (join_reached (ends turns r) q u v first (complete_reached _ b (within q u a lt first)))
+      complete_reached q (Complete.left {r} e a) lt = listed _ q e lt (covers_first m (ends turns r q) (complete_reached q a lt))
+      complete_reached q (Complete.right {l} e a) lt = listed _ q e lt (covers_second m (ends turns l q) (complete_reached q a lt))
       complete_reached q (Complete.framed {p = i} {u} e a) lt =
-          covers_same m (ap (run automaton q) (events-framed i u)) (effort-framed laws s.costs i u) (through m laws (rules e lt).complete (complete_reached q a lt))
+          covers_same m (ap (run automaton q) (events-framed i u)) (effort-framed laws s.costs i u) (listed _ q e lt (complete_reached q a lt))
       complete_reached q (Complete.called {d} {b} {u} e h a) lt =
-          through m laws (rules e lt).complete (subst (λ (i : ℕ). Reached (ends turns i q) q u) (sym (get_or_from_slice_get s.bodies d b 0 h)) (complete_reached q a lt))
+          listed _ q e lt (rw (get_or_from_slice_get s.bodies d b 0 h) (complete_reached q a lt))
 
       -- the policy is open after a history, given whether it is before
       abbrev OpenAfter : Bool → List ℕ → Type 0
@@ -162,7 +166,7 @@ module _ {S : Type 0} (m : Measure S) (s : Setting) (p : ℕ) where
           covers_same m (ap (run automaton q) (events-opening i u)) (effort-opening laws s.costs i u) (part_reached _ q f u e lt part)
       started_reached q f (Started.framed {u} e a) lt o = was_reached _ q f u e lt (complete_balanced table p low a) o (Covers.there (complete_reached q a lt))
       started_reached q f (Started.called {d} {b} {u} e h a) lt o =
-          part_reached _ q f u e lt (subst (λ (i : ℕ). Reached (opens turns i q f) q u) (sym (get_or_from_slice_get s.bodies d b 0 h)) (started_reached q f a lt o))
+          part_reached _ q f u e lt (rw (get_or_from_slice_get s.bodies d b 0 h) (started_reached q f a lt o))
 
       -- what holds of all bounds at offending states holds at or below the effort of each history that offends
       pub offends_above : (n q : ℕ) (g : S → Bool) → every m (λ k x. not (automaton.offends k) || g x) (opens turns n q false) ≡ true → q < automaton.states → (w : List ℕ) → Started s.nodes s.bodies n w → OffendsFrom automaton p q w → (x : S) × (m.at_most x (effort m s.costs w) ≡ true) × (g x ≡ true)
