@@ -40,6 +40,7 @@ impl Quota {
     }
 }
 
+// One policy: a trait for such boards was tried, and is longer than what it saves.
 impl Board for Quota {
     ghost meaning = { λ b. quota b.k b.marked };
 

@@ -11,7 +11,7 @@ use records::record::{DefRecord, Kind, NodeRecord, Sofar};
 use records::rules::{check_each, undefined_call};
 use std::alloc::{AllocError, Global};
 
-// Tests that each called definition is there.
+// Tests that each called definition is there; the place is the node's, where a reading tells that of its line.
 fn check_calls(nodes: &[NodeRecord], defs: usize) -> Result<(), Fault>
     ensures { MatchResult result (λ _. AllCalled nodes.now defs (length nodes.now)) (λ fault. BadCall nodes.now defs (told fault)) }
 {

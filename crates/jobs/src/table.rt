@@ -24,7 +24,7 @@ impl Table {
         self.nodes.get(usize::from(n)).copied()
     }
 
-    // The body of this definition.
+    // The body of this definition. It is asked for as a node is, but of a list of another type.
     pub fn body(&self, d: u8) -> Option<u8>
         ensures { result ≡ slice_get self.now.bodies.items d }
     {

@@ -25,6 +25,7 @@ impl Ordered {
     }
 }
 
+// Alike to a quota in its questions, but of another type: each is a line.
 impl Board for Ordered {
     ghost meaning = { λ b. ordered b.first b.then };
 

@@ -10,7 +10,7 @@ use crate::record::{
     TariffRecord,
 };
 
-// A record has its line, and its place among the records so far.
+// A record has its line, and its place among the records so far. The seven impls are written out, since a macro holds no ghost item.
 pub trait Record: Copy {
     ghost line: { Self → LineOf };
 

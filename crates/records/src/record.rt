@@ -78,7 +78,7 @@ pub enum Line {
     Tariff(TariffRecord),
 }
 
-// The records of the lines so far.
+// The records of the lines so far: lists of different types, none as long as another.
 #[derive(Clone, Copy, PartialEq, Eq, Debug, Default)]
 pub struct Sofar<'a> {
     pub policies: &'a [PolicyRecord],

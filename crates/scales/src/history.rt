@@ -4,7 +4,8 @@ ghost use Rattle.scales.specs.Efforts.{effort};
 
 use crate::scale::Scale;
 
-// Joins the costs of the history's events in turn; openings and closings cost nothing.
+// Joins the costs of the history's events in turn; openings and closings cost nothing. Symbols are numbers, as a history buffer holds them.
+// It is a `for`, since a fold over what `get` answers is no plainer.
 pub fn effort_of<S: Scale>(history: &[u16], costs: &[u32; 256]) -> S
     ensures { result ≡ effort S.Scale.measure costs.now history.now }
 {

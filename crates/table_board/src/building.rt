@@ -13,7 +13,7 @@ use records::record::{BadRecord, EdgeRecord, PolicyRecord, Sofar};
 use records::rules::check_each;
 use std::alloc::{AllocError, Global};
 
-// Policies, bads and edges that keep the rules.
+// Policies, bads and edges that keep the rules: three lists of three types, none as long as another.
 #[derive(Clone, Copy, Debug, PartialEq, Eq)]
 pub(crate) struct Source<'a> {
     policies: &'a [PolicyRecord],
@@ -54,7 +54,7 @@ impl<'a> Source<'a> {
             .any(|bad| bad.policy == policy && bad.state == state)
     }
 
-    // The row of a policy's state. A missing edge leaves the state.
+    // The row of a policy's state. A missing edge leaves the state. It is a `for`, since a fold over an array is no plainer.
     fn row(&self, policy: u64, state: u8) -> Row
         ensures { IsRowOf ((meant self.now).automaton policy) state result }
     {

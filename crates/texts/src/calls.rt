@@ -14,7 +14,8 @@ fn is_line_of(n: u64, line: Option<Line>) -> bool
     matches!(line, Some(Line::Node(r)) if r.node == n)
 }
 
-// The place of the line of node n, in a text that has it: walks the text again.
+// The place of the line of node n, in a text that has it, else the text's end: walks the text again. It is a `for`, since `find` would give
+// the place with the line, to be taken out.
 pub(crate) fn node_place(text: &[u8], n: u64) -> usize
     ensures { (room : Room) (rs : Records) → Passed room text.now (length text.now) rs → n < length rs.nodes → NodeAt room text.now n result }
 {

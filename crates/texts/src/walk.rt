@@ -23,7 +23,8 @@ impl<'a> Lines<'a> {
     }
 }
 
-// Gives each line with its place. Where no line stands it gives the place alone, and ends.
+// Gives each line with its place. Where no line stands it gives the place alone, and ends: the place is told either way, so it is no
+// `Result`.
 impl Iterator for Lines<'_> {
     ghost use Rattle.std.specs.Prelude.{◌-◌, length};
     ghost use Rattle.std.specs.Iterator.{at_most};

@@ -1,4 +1,5 @@
 // Texts, and the line that is printed of each.
+use std::alloc::Global;
 use std::fmt;
 use std::process::Abort;
 use std::test::Fail;
@@ -6,7 +7,7 @@ use texts::report::report;
 
 // Whether each text gets a line that begins so, and ends in what stands beside it.
 fn all_answered<P: fmt::Display>(
-    rt: &(impl Abort + Alloc),
+    rt: &(impl Abort + Alloc<A = Global>),
     answer: &str,
     cases: &[(&str, P)],
 ) -> Result<(), Fail> {

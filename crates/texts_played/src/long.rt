@@ -4,7 +4,7 @@ use std::process::Abort;
 use std::test::Fail;
 use texts::report::report;
 
-fn play(rt: &(impl Abort + Alloc), text: &String, line: &str) -> Result<(), Fail> {
+fn play(rt: &(impl Abort + Alloc<A = Global>), text: &String, line: &str) -> Result<(), Fail> {
     assert_eq!(rt; report(rt.alloc(), text.as_bytes())?.as_str(), line);
     Ok(())
 }
@@ -22,7 +22,7 @@ fn edges(heap: Global) -> Result<String, Fail> {
 
 // Whether the text is accepted with these counts, and refused for a limit at one line more.
 fn play_limit(
-    rt: &(impl Abort + Alloc),
+    rt: &(impl Abort + Alloc<A = Global>),
     mut text: String,
     counts: &str,
     line: &str,
