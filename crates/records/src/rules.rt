@@ -2,7 +2,7 @@
 ghost use Rattle.std.specs.Prelude.{◌≡◌, Bool, length, MatchOption};
 ghost use Rattle.records.specs.Breaks.{Tested, breach_at};
 ghost use Rattle.records.specs.Faults.{answer, at_place};
-ghost use Rattle.records.specs.Rules.{AllCalled, FirstUncalled, breach, call_there, earlier_bad, earlier_edge, earlier_mark, earlier_tariff, held, in_limits, in_order, is_there, no_bads, no_defs, no_edges, no_marks, no_nodes, no_quota, no_tariffs, parts_in_limits, parts_there, rises, state_there};
+ghost use Rattle.records.specs.Rules.{AllCalled, FirstUncalled, breach, call_there, earlier_bad, earlier_edge, earlier_mark, earlier_tariff, held, in_limits, in_order, is_there, parts_in_limits, parts_there, rises, state_there};
 
 use crate::fault::Fault;
 use crate::listed::Record;
