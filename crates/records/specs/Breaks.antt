@@ -24,6 +24,6 @@ pub record FirstBreak (broken : ℕ → Option ℕ) (n : ℕ) (tells : Refusal) 
 abbrev pub Tested : {T : Type 0} → (ℕ → Option ℕ) → ℕ → Result T Fault → Type 0
 Tested broken n r = MatchResult r (λ _. Keep broken n) (λ fault. FirstBreak broken n (told fault))
 
--- the first rule that record k breaks after some records and those of its kind that stand before it
+-- the first rule that record k breaks after some records, among which those that stand before it take the place of those of their kind
 abbrev pub breach_at : {R : Type 0} → (R → Line) → (Records → List R → Records) → R → Records → List R → ℕ → Option ℕ
 breach_at line among blank rs these k = breach (among rs (take k these)) (line (slice_index_or these k blank))

@@ -84,7 +84,7 @@ pub record Overwritten {X : Type 0} (before after : List X) (n : ℕ) : Type 0 w
   pub long : length after ≡ length before
   pub rest : drop n after ≡ drop n before
 
--- what is used of a list is more than before, and the rest is as it was
+-- what is used of a list is no less than before, and the rest is as it was
 pub record Grown {X : Type 0} (old new : List X) (n m : ℕ) : Type 0 where
   pub more : n ≤ m
   pub over : Overwritten old new m
