@@ -11,7 +11,8 @@ use records::record::{
 use std::alloc::{AllocError, Global};
 use std::fmt;
 
-// As `accepted policies=1 bads=1 edges=2 quota=none marks=0 nodes=6 defs=2 tariffs=2`.
+// As `accepted policies=1 bads=1 edges=2 quota=none marks=0 nodes=6 defs=2 tariffs=2`. Each word and each number is a piece of its own, so
+// that a writer which takes no more keeps the same beginning whether there is a quota or not.
 impl fmt::Display for Counts {
     ghost output = { λ n. Some (counts_text n) };
 
@@ -26,14 +27,16 @@ impl fmt::Display for Counts {
             defs,
             tariffs,
         } = *self;
-        write!(f, "accepted policies={policies} bads={bads} edges={edges}")?;
+        f.write_str("accepted ")?;
+        write!(f, "policies={policies} bads={bads} edges={edges} quota=")?;
         match quota {
-            Some(k) => write!(f, " quota={k}")?,
-            None => write!(f, " quota=none")?,
+            Some(k) => write!(f, "{k}")?,
+            None => f.write_str("none")?,
         }
+        f.write_str(" ")?;
         write!(
             f,
-            " marks={marks} nodes={nodes} defs={defs} tariffs={tariffs}"
+            "marks={marks} nodes={nodes} defs={defs} tariffs={tariffs}"
         )
     }
 }
