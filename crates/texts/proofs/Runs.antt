@@ -1,17 +1,16 @@
 -- The digits that a text begins with. Assumes nothing.
-use Rattle.std.proofs.Common.{◌≡◌, ℕ, List, ◌++◌, length, take, drop, decimal, Ok, Result, true, false, refl, sym, ap, ◌∙◌, subst, ⊎_elim, arith, add-zero}
-use Rattle.std.specs.Char.{is_ascii_digit}
+use Rattle.std.proofs.Common.{◌≡◌, ℕ, ◌^◌, ◌+◌, ◌-◌, ◌*◌, ◌%◌, ◌<◌, List, [], ◌∷◌, ◌++◌, length, take, drop, fold, decimal, true, false, refl, sym, ap, ◌∙◌, subst, ⊎_elim, arith, add-zero}
+use Rattle.std.specs.Char.{digit_value, is_ascii_digit}
 use Rattle.std.specs.Int.{IsInRange}
 use Rattle.std.specs.List.{prefix_len, take_while}
-use Rattle.std.specs.Str.{IsUtf8}
-use Rattle.std.specs.Str.Parse.{digits_value, AllDigits, ParsesUnsigned}
+use Rattle.std.specs.Str.Parse.{digits_value, digits_value_after, AllDigits}
 use Rattle.std.proofs.lemmas.Bool.Decides.{nat_tests}
-use Rattle.std.proofs.lemmas.Fmt.{IsAscii-from_digits, length-decimal-le, decimal_nonempty, first_decimal, decimal-digits_value}
+use Rattle.std.proofs.lemmas.Fmt.{length-decimal-le, decimal_nonempty, first_decimal, decimal-digits_value}
 use Rattle.std.proofs.lemmas.List.{take-append-drop, get_or-take, get_or-drop, get_or_past}
 use Rattle.std.proofs.lemmas.List.Folds.{length-prefix_len}
 use Rattle.std.proofs.lemmas.List.Sums.{prefix_len_passes, prefix_len_stops}
-use Rattle.std.proofs.lemmas.Str.{IsUtf8-from_ascii}
-use Rattle.std.proofs.lemmas.Str.Parse.{digits_value_short, numerals_by_value, tells_by_index, parse_gives}
+use Rattle.std.proofs.lemmas.Str.{digit_value_digit}
+use Rattle.std.proofs.lemmas.Str.Parse.{digit_from_value, digits_value_short, numerals_by_value, tells_by_index}
 use Rattle.std.proofs.str.Laws.{order}
 use Rattle.records.specs.Written.{written}
 use Rattle.records.proofs.Numbers.{written_is}
@@ -26,14 +25,23 @@ decimal_is_spelled n small =
       lead = λ zero. ⊎_elim (λ some. absurd (omega (arith, first_decimal n some (omega arith), zero))) (λ none. omega (arith, length-decimal-le 1 n (omega arith) (omega arith) (omega arith), decimal_nonempty n (omega arith))) (order 0 n);
     }
 
-pub digits_are_utf8 : (ds : List ℕ) → AllDigits 10 ds → IsUtf8 ds
-digits_are_utf8 ds all = IsUtf8-from_ascii ds (IsAscii-from_digits ds all)
-
 small_value : (ds : List ℕ) → AllDigits 10 ds → IsSpelled ds → Small (digits_value 10 ds)
 small_value ds all good = digits_value_short own ds 10 all good.few
 
-pub digits_parse : {E : Type 0} (ds : List ℕ) (r : Result ℕ E) → ParsesUnsigned 64 10 ds r → AllDigits 10 ds → IsSpelled ds → r ≡ Ok (digits_value 10 ds)
-digits_parse ds r parses all good = parse_gives own 64 ds r parses all good.some (omega (arith, small_value ds all good))
+-- a number with one digit more, as machine numbers count
+abbrev pub pushed : ℕ → ℕ → ℕ
+pushed n c = (n * 10 % 2 ^ 64 + (c + (2 ^ 8 - 48)) % 2 ^ 8) % 2 ^ 64
+
+pushed_is : (n c : ℕ) → digit_value c < 10 → pushed (n % 2 ^ 64) c ≡ (n * 10 + digit_value c) % 2 ^ 64
+pushed_is n c h = omega (arith, digit_from_value c h, digit_value_digit c (digit_from_value c h))
+
+folds_after : (ds : List ℕ) (n : ℕ) → AllDigits 10 ds → fold pushed (n % 2 ^ 64) ds ≡ digits_value_after 10 n ds % 2 ^ 64
+folds_after [] n all = refl
+folds_after (c ∷ ds) n all = rw (pushed_is n c all.0) (folds_after ds (n * 10 + digit_value c) all.1)
+
+-- ten digits fit, so nothing is lost
+pub value_folds : (ds : List ℕ) → AllDigits 10 ds → IsSpelled ds → fold pushed 0 ds ≡ digits_value 10 ds
+value_folds ds all good = omega (arith, folds_after ds 0 all, small_value ds all good)
 
 is_digit : (c : ℕ) → is_ascii_digit c ≡ true → IsInRange 48 57 c
 is_digit c e = grind (arith, nat_tests)

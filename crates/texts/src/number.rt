@@ -19,7 +19,8 @@ fn is_spelled(digits: &[u8]) -> bool
     !digits.is_empty() && digits.len() <= 10 && (digits[0] != b'0' || digits.len() == 1)
 }
 
-// The number that these digits write, if they write one.
+// The number that these digits write, if they write one. Ten digits fit, so nothing wraps. No `parse`, which would look at each digit
+// twice more: every number of a text comes here.
 fn value_of(digits: &[u8]) -> Option<u64>
     requires { AllDigits 10 digits.now }
     ensures { SomeIff result (IsSpelled digits.now) (digits_value 10 digits.now) }
@@ -27,7 +28,12 @@ fn value_of(digits: &[u8]) -> Option<u64>
     if !is_spelled(digits) {
         return None;
     }
-    str::from_utf8(digits).ok()?.parse().ok()
+    let number = digits.iter().fold(0u64, |number, digit| {
+        number
+            .wrapping_mul(10)
+            .wrapping_add(u64::from(digit.wrapping_sub(b'0')))
+    });
+    Some(number)
 }
 
 // The number that the text begins with.
