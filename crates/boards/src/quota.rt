@@ -1,5 +1,5 @@
 // A board of one policy that allows k marked events.
-ghost use Rattle.std.specs.Prelude.{◌≡◌, ◌≤◌, length, IfOk, if◌then◌else◌, Some, None, nat_le};
+ghost use Rattle.std.specs.Prelude.{◌≡◌, ◌+◌, ◌<◌, ◌≤◌, length, IfOk, if◌then◌else◌, Some, None, nat_le};
 ghost use Rattle.records.specs.declared.fault.Layer.TheVariants as layer;
 ghost use Rattle.records.specs.Faults.{answer, refusal};
 ghost use Rattle.boards.specs.Quotas.{counter, quota};
@@ -28,15 +28,12 @@ impl Quota {
         Ok(Quota { k, marked })
     }
 
-    // Where event e leads from state q.
+    // Where event e leads from a state q that is there. It has no branch, since nobody can foretell which events of a journal are marked.
     fn next(&self, q: u8, e: u8) -> u8
-        ensures { result ≡ (counter self.now.k self.now.marked).next q e }
+        ensures { q < self.now.k + 2 → result ≡ (counter self.now.k self.now.marked).next q e }
     {
-        if self.marked[usize::from(e)] {
-            q.saturating_add(1).min(self.k + 1)
-        } else {
-            q
-        }
+        q.saturating_add(u8::from(self.marked[usize::from(e)]))
+            .min(self.k + 1)
     }
 }
 
