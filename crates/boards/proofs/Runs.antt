@@ -1,9 +1,13 @@
 -- Runs of a board's automata. Assumes nothing.
-use Rattle.std.proofs.Common.{◌≡◌, ℕ, ◌+◌, ◌<◌, Bool, List, length, get_or, take, Some, arith}
+use Rattle.std.proofs.Common.{◌≡◌, ℕ, ◌+◌, ◌<◌, Bool, List, [], ◌∷◌, length, get_or, take, Some, arith}
 use Rattle.std.proofs.lemmas.List.{take_more}
-use Rattle.histories.specs.Automata.{run}
+use Rattle.histories.specs.Automata.{Automaton, run}
 use Rattle.histories.proofs.Counts.{run-nil, run-push}
-use Rattle.boards.specs.Meanings.{Meaning, Sound, start_of, step_of}
+use Rattle.boards.specs.Meanings.{Meaning, Closed, Sound, start_of, step_of}
+
+-- what a step that answered says
+pub step_gives : (m : Meaning) (p q e n : ℕ) (f : Bool) → Some (n, f) ≡ step_of m p q e → (p < m.count) × (q < (m.automaton p).states) × (n ≡ (m.automaton p).next q e) × (f ≡ (m.automaton p).offends n)
+step_gives m p q e n f h = grind arith
 
 -- the automaton of p stands at q, a state of it, after the first i of some events
 pub record Stands (m : Meaning) (p : ℕ) (es : List ℕ) (i q : ℕ) : Type 0 where
@@ -18,6 +22,12 @@ stands_more m sound p es i q e n f now within read stepped = record {
   state = grind (arith, sound.closed p now.policy);
   reached = grind (arith, take_more es i 0 within, run-push);
 }
+
+-- a run stays among the states
+pub run-stays : (a : Automaton) → Closed a → (q : ℕ) (es : List ℕ) → q < a.states → run a q es < a.states
+unfolding run
+run-stays a closed q [] inside = inside
+run-stays a closed q (e ∷ es) inside = run-stays a closed (a.next q e) es (closed.stays q e inside)
 
 -- before the first event the automaton stands at its start
 pub stands_first : (m : Meaning) → Sound m → (p : ℕ) (es : List ℕ) (q : ℕ) → Some q ≡ start_of m p → Stands m p es 0 q

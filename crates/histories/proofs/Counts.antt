@@ -70,6 +70,39 @@ pub occurrences-cons : (s x : ℕ) (w : List ℕ) → occurrences s (x ∷ w) �
 unfolding occurrences
 occurrences-cons s x w = grind arith
 
+pub occurrences-same : (s : ℕ) (w : List ℕ) → occurrences s (s ∷ w) ≡ 1 + occurrences s w
+unfolding occurrences
+occurrences-same s w = grind (arith, nat_tests)
+
+pub occurrences-other : (s x : ℕ) (w : List ℕ) → (x ≡ s → ⊥) → occurrences s (x ∷ w) ≡ occurrences s w
+unfolding occurrences
+occurrences-other s x w h = grind (arith, nat_tests)
+
+-- symbols of policies below 256 are apart, and apart from events
+pub event_opening : (e p : ℕ) → e < 256 → e ≡ opening p → ⊥
+unfolding opening
+event_opening e p h q = omega arith
+
+pub event_closing : (e p : ℕ) → e < 256 → e ≡ closing p → ⊥
+unfolding closing
+event_closing e p h q = omega arith
+
+pub opening_closing : (p q : ℕ) → p < 256 → opening p ≡ closing q → ⊥
+unfolding opening closing
+opening_closing p q h e = omega arith
+
+pub closing_opening : (p q : ℕ) → q < 256 → closing p ≡ opening q → ⊥
+unfolding opening closing
+closing_opening p q h e = omega arith
+
+pub opening_apart : (p q : ℕ) → (p ≡ q → ⊥) → opening p ≡ opening q → ⊥
+unfolding opening
+opening_apart p q h e = h (omega arith)
+
+pub closing_apart : (p q : ℕ) → (p ≡ q → ⊥) → closing p ≡ closing q → ⊥
+unfolding closing
+closing_apart p q h e = h (omega arith)
+
 -- how often a policy's symbols stand in a history of one symbol
 pub event_opens_none : (p e : ℕ) → e < 256 → occurrences (opening p) (e ∷ []) ≡ 0
 unfolding opening
