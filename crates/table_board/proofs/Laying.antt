@@ -4,8 +4,8 @@ use Rattle.std.proofs.lemmas.List.{get_or_append_left, get_or_past, get_or_push}
 use Rattle.std.proofs.lemmas.Option.{slice_get-get_or}
 use Rattle.histories.specs.Automata.{Automaton}
 use Rattle.boards.specs.Meanings.{Closed, Same, SameAutomaton}
-use Rattle.table_board.specs.declared.policy.Row.{Row}
-use Rattle.table_board.specs.declared.policy.Policy.{Policy}
+use Rattle.table_board.specs.declared.rows.Row.{Row}
+use Rattle.table_board.specs.declared.rows.Policy.{Policy}
 use Rattle.table_board.specs.Rows.{automaton}
 use Rattle.table_board.specs.Policies.{automaton_of, laid_out}
 use Rattle.table_board.specs.Building.{AreRowsOf}

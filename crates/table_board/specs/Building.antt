@@ -4,7 +4,7 @@ use Rattle.histories.specs.Automata.{Automaton}
 use Rattle.boards.specs.Meanings.{Meaning}
 use Rattle.boards.specs.Tables.{tabled}
 use Rattle.table_board.specs.declared.building.Source.{Source}
-use Rattle.table_board.specs.declared.policy.Row.{Row}
+use Rattle.table_board.specs.declared.rows.Row.{Row}
 use Rattle.table_board.specs.Rows.{row_at}
 
 -- what the records mean

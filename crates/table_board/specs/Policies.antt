@@ -4,7 +4,7 @@ use Rattle.std.specs.Option.{option_map_or}
 use Rattle.std.proofs.Common.{zero, suc, arith}
 use Rattle.histories.specs.Automata.{Automaton}
 use Rattle.boards.specs.Meanings.{Closed, Meaning, Sound}
-use Rattle.table_board.specs.declared.policy.Policy.{Policy}
+use Rattle.table_board.specs.declared.rows.Policy.{Policy}
 use Rattle.table_board.specs.Rows.{automaton}
 
 abbrev pub automaton_of : Policy → Automaton

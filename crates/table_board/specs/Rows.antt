@@ -1,7 +1,7 @@
 -- What the rows of a policy mean. Assumes nothing.
 use Rattle.std.specs.Prelude.{ℕ, false, List, [], length, slice_index_or}
 use Rattle.histories.specs.Automata.{Automaton}
-use Rattle.table_board.specs.declared.policy.Row.{Row}
+use Rattle.table_board.specs.declared.rows.Row.{Row}
 
 abbrev pub row_at : List Row → ℕ → Row
 row_at rows q = slice_index_or rows q (record { offends = false; next = [] })

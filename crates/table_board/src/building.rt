@@ -7,7 +7,7 @@ ghost use Rattle.boards.specs.Tables.{bad_in};
 ghost use Rattle.table_board.specs.Making.{Broken, Kept};
 ghost use Rattle.table_board.specs.Policies.{automaton_of, laid_out};
 
-use crate::policy::{Policy, Row};
+use crate::rows::{Policy, Row};
 use records::fault::Fault;
 use records::record::{BadRecord, EdgeRecord, PolicyRecord, Sofar};
 use records::rules::check_each;

@@ -4,5 +4,5 @@
 mod building;
 pub mod laws;
 pub mod making;
-mod policy;
+pub mod rows;
 pub mod table;

@@ -2,7 +2,7 @@
 ghost use Rattle.std.specs.Prelude.{◌≡◌, ◌≤◌, length, option_copied, option_and_then, slice_get};
 ghost use Rattle.table_board.specs.Policies.{laid_out, sound};
 
-use crate::policy::{Policy, Row};
+use crate::rows::{Policy, Row};
 use boards::board::Board;
 
 // A policy for each policy record: at most eight.
