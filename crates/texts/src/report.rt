@@ -11,8 +11,8 @@ use records::record::{
 use std::alloc::{AllocError, Global};
 use std::fmt;
 
-// As `accepted policies=1 bads=1 edges=2 quota=none marks=0 nodes=6 defs=2 tariffs=2`. Each word and each number is a piece of its own, so
-// that a writer which takes no more keeps the same beginning whether there is a quota or not.
+// As `accepted policies=1 bads=1 edges=2 quota=none marks=0 nodes=6 defs=2 tariffs=2`. The first word, the quota and the blank behind it are
+// pieces of their own, as they always were: a writer that takes no more keeps what it got.
 impl fmt::Display for Counts {
     ghost output = { λ n. Some (counts_text n) };
 
